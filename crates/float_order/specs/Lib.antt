@@ -1,0 +1,17 @@
+pub mod Order
+pub mod Round
+pub mod Ops
+pub mod Range
+pub mod Interval
+pub mod Abs
+pub mod Same
+pub mod Exact
+pub mod Whole
+pub mod Plus
+pub mod Error
+pub mod Relative
+pub mod Dyadic
+pub mod Gaps
+pub mod Casts
+pub mod Digits
+pub mod Bits
