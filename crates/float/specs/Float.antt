@@ -1,0 +1,35 @@
+-- Document 01's minimum, maximum, clamp, magnitude and ceiling, as Rust's `f64` has them, for every input.
+use Prim.Native.Nat.{_+_, _-_, _*_, _/_}
+use mathlib.Core.Bool.{true, false, cond}
+use lib.Ieee.{Float, nan, inf, fin, binary64, up, down, isNan, lt, round}
+
+-- the other operand where one is a NaN; of two equal numbers the first, so of two zeros of unlike sign too
+unfoldable pub min : Float → Float → Float
+min a b = cond (isNan a) b (cond (lt b a) b a)
+
+unfoldable pub max : Float → Float → Float
+max a b = cond (isNan a) b (cond (lt a b) b a)
+
+-- as Rust has it: up to lo where it is below, and then down to hi where it is above
+abbrev raised : Float → Float → Float
+raised x lo = cond (lt x lo) lo x
+
+abbrev lowered : Float → Float → Float
+lowered x hi = cond (lt hi x) hi x
+
+unfoldable pub clamp : Float → Float → Float → Float
+clamp x lo hi = lowered (raised x lo) hi
+
+-- the sign dropped, of a zero too
+unfoldable pub abs : Float → Float
+abs nan = nan
+abs (inf s) = inf false
+abs (fin s m e) = fin false m e
+
+-- The least whole number at or above the value. Below zero that is the magnitude without its fraction, and a zero there is -0.
+unfoldable pub ceil : Float → Float
+unfolding round
+ceil nan = nan
+ceil (inf s) = inf s
+ceil (fin true m e) = round binary64 true (m * up e / down e) 1
+ceil (fin false m e) = round binary64 false ((m * up e + (down e - 1)) / down e) 1
