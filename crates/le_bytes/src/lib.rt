@@ -1,0 +1,50 @@
+// Numbers in bytes, the least significant byte first. What lies past a slice's end counts as 0.
+ghost use mathlib.Core.Path.{_≡_};
+ghost use Prim.Native.Nat.{_+_, _≤_, _<_, _^_};
+ghost use lib.ListN.{getD};
+ghost use Rattle.le_bytes.specs.LeBytes.{le};
+
+// The byte of s at place at + i.
+fn byte(s: &[u8], at: usize, i: usize) -> u8
+    ensures { λ r. ⌜ r ≡ getD (now (s .entry)) (at + i) 0 ⌝ }
+{
+    if s.len() <= at {
+        return 0;
+    }
+    if s.len() - at <= i {
+        return 0;
+    }
+    s[at + i]
+}
+
+// The number in the n bytes of s from place at on.
+fn number(s: &[u8], at: usize, n: usize) -> u64
+    requires { ⌜ n ≤ 8 ⌝ }
+    ensures { λ r. ⌜ (r ≡ le n (now (s .entry)) at) × (r < 256 ^ n) ⌝ }
+{
+    let mut v: u64 = 0;
+    let mut i = n;
+    while 0 < i {
+        i -= 1;
+        v = v * 256 + byte(s, at, i) as u64;
+    }
+    v
+}
+
+pub fn read_u16(s: &[u8], at: usize) -> u16
+    ensures { λ r. ⌜ r ≡ le 2 (now (s .entry)) at ⌝ }
+{
+    number(s, at, 2) as u16
+}
+
+pub fn read_u32(s: &[u8], at: usize) -> u32
+    ensures { λ r. ⌜ r ≡ le 4 (now (s .entry)) at ⌝ }
+{
+    number(s, at, 4) as u32
+}
+
+pub fn read_u64(s: &[u8], at: usize) -> u64
+    ensures { λ r. ⌜ r ≡ le 8 (now (s .entry)) at ⌝ }
+{
+    number(s, at, 8)
+}
