@@ -15,3 +15,4 @@ pub mod Gaps
 pub mod Casts
 pub mod Digits
 pub mod Bits
+pub mod Binary64

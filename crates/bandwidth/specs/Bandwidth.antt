@@ -1,0 +1,53 @@
+-- crates/proto/src/bandwidth.rs: what each operation on rates and sizes gives.
+use Prim.Native.Nat.{ℕ, _^_, _-_}
+use mathlib.Core.Bool.{Bool, cond}
+use lib.IntN.{ℤ, pos, negsuc, _+ℤ_}
+use lib.Signed.{ltZ}
+use lib.Ieee as Ieee
+use lib.Ieee.{Float, binary64, ofInt}
+use Rattle.float_order.specs.Binary64.{mul as times, div, lit}
+use Rattle.float.specs.Float as Float
+use Rattle.seconds.specs.Seconds.{asSecsF64}
+use Rattle.bandwidth.specs.declared.Bitrate.{Bitrate}
+use Rattle.bandwidth.specs.declared.DataSize.{DataSize}
+
+-- ---- Bitrate
+abbrev pub rate : Float → Bitrate
+rate x = record { 0 = x }
+
+abbrev pub bps : ℕ → Bitrate
+bps n = rate (ofInt binary64 (pos n))
+
+unfoldable pub clamp : Bitrate → Bitrate → Bitrate → Bitrate
+clamp b low high = rate (Float.clamp (b .0) (low .0) (high .0))
+
+abbrev pub mul : Bitrate → Float → Bitrate
+mul b k = rate (times (b .0) k)
+
+abbrev pub lt : Bitrate → Bitrate → Bool
+lt a b = Ieee.lt (a .0) (b .0)
+
+-- ---- DataSize
+abbrev pub bytes : ℤ → DataSize
+bytes n = record { 0 = n }
+
+abbrev pub asBytesF64 : DataSize → Float
+asBytesF64 s = ofInt binary64 (s .0)
+
+abbrev pub less : DataSize → DataSize → Bool
+less a b = ltZ (a .0) (b .0)
+
+-- the ends of i64
+abbrev pub least : ℤ
+least = negsuc (2 ^ 63 - 1)
+
+abbrev pub most : ℤ
+most = pos (2 ^ 63 - 1)
+
+-- the sum, or the end of i64 that it is past
+unfoldable pub addSize : DataSize → DataSize → DataSize
+addSize a b = let s = a .0 +ℤ b .0 in bytes (cond (ltZ most s) most (cond (ltZ s least) least s))
+
+-- bits over seconds, each operation rounded
+unfoldable pub perDuration : DataSize → ℕ → Bitrate
+perDuration s d = rate (cond (Ieee.eq (asSecsF64 d) (lit 0)) (lit 0) (div (times (asBytesF64 s) (lit 0x4020_0000_0000_0000)) (asSecsF64 d)))

@@ -1,0 +1,106 @@
+// crates/proto/src/bandwidth.rs: rates and sizes, two kinds of quantity, with the operations that a link uses.
+ghost use mathlib.Core.Path.{_≡_};
+ghost use Rattle.bandwidth.specs.Bandwidth as B;
+
+// A data rate in bits per second.
+pub struct Bitrate(pub f64);
+
+// A data size in bytes.
+pub struct DataSize(pub i64);
+
+// Rust's `Option<Bitrate>`.
+pub enum OptionBitrate {
+    None,
+    Some(Bitrate),
+}
+
+impl Bitrate {
+    pub const ZERO: Bitrate = Bitrate(0.0);
+
+    // The least and the greatest estimate: 40 kbps and 10 Gbps.
+    pub const MIN_ESTIMATE: Bitrate = Bitrate(40_000.0);
+
+    pub const MAX_ESTIMATE: Bitrate = Bitrate(10_000_000_000.0);
+
+    pub fn bps(bps: u64) -> Self
+        ensures { λ r. ⌜ r ≡ B.bps bps ⌝ }
+    {
+        Bitrate(std::num::nearest_u64_to_f64(bps))
+    }
+
+    pub fn as_f64(self) -> f64
+        ensures { λ r. ⌜ r ≡ self .0 ⌝ }
+    {
+        self.0
+    }
+
+    pub fn clamp(self, min: Bitrate, max: Bitrate) -> Self
+        ensures { λ r. ⌜ r ≡ B.clamp self min max ⌝ }
+    {
+        Bitrate(float::clamp(self.0, min.0, max.0))
+    }
+
+    pub fn mul(self, factor: f64) -> Self
+        ensures { λ r. ⌜ r ≡ B.mul self factor ⌝ }
+    {
+        Bitrate(self.0 * factor)
+    }
+
+    pub fn lt(self, other: Bitrate) -> bool
+        ensures { λ r. ⌜ r ≡ B.lt self other ⌝ }
+    {
+        self.0 < other.0
+    }
+}
+
+impl DataSize {
+    pub const ZERO: DataSize = DataSize(0);
+
+    pub fn bytes(bytes: i64) -> Self
+        ensures { λ r. ⌜ r ≡ B.bytes bytes ⌝ }
+    {
+        DataSize(bytes)
+    }
+
+    pub fn as_bytes_f64(self) -> f64
+        ensures { λ r. ⌜ r ≡ B.asBytesF64 self ⌝ }
+    {
+        std::num::nearest_i64_to_f64(self.0)
+    }
+
+    pub fn less(self, other: DataSize) -> bool
+        ensures { λ r. ⌜ r ≡ B.less self other ⌝ }
+    {
+        self.0 < other.0
+    }
+
+    // The sum; past an end of i64, where the Rust overflows, that end.
+    pub fn add(self, other: DataSize) -> Self
+        ensures { λ r. ⌜ r ≡ B.addSize self other ⌝ }
+    {
+        let a = self.0;
+        let b = other.0;
+        if a >= 0 {
+            if b > i64::MAX - a {
+                return DataSize(i64::MAX);
+            }
+            return DataSize(a + b);
+        }
+        if b < i64::MIN - a {
+            return DataSize(i64::MIN);
+        }
+        DataSize(a + b)
+    }
+
+    // The rate that moves the size in a duration of so many ns, and 0 where that is 0.
+    pub fn div(self, duration: u64) -> Bitrate
+        ensures { λ r. ⌜ r ≡ B.perDuration self duration ⌝ }
+    {
+        let bytes = self.as_bytes_f64();
+        let s = seconds::as_secs_f64(duration);
+        if s == 0.0 {
+            return Bitrate::ZERO;
+        }
+        Bitrate((bytes * 8.0) / s)
+    }
+}

@@ -1,0 +1,441 @@
+// src/bwe/time.rs: instants and lengths of time with their infinities. An instant and a duration are whole numbers of ns.
+// A finite length above MAX, given or computed, is the infinity of its sign; such an instant is `DistantFuture`, one below 0 `DistantPast`.
+ghost use mathlib.Core.Path.{_≡_};
+ghost use Prim.Native.Nat.{_≤_};
+ghost use lib.IntN.{natAbs};
+ghost use Rattle.time.specs.Time as Time;
+use bandwidth::Bitrate;
+use bandwidth::DataSize;
+
+// The longest finite length, and the last exact instant, in ns.
+pub const MAX: u64 = 4_000_000_000_000_000_000;
+
+// Rust's `Option<Instant>`.
+pub enum OptionInstant {
+    None,
+    Some(u64),
+}
+
+// Rust's `Option<Duration>`.
+pub enum OptionDuration {
+    None,
+    Some(u64),
+}
+
+// Rust's `std::cmp::Ordering`.
+pub enum Ordering {
+    Less,
+    Equal,
+    Greater,
+}
+
+pub enum Timestamp {
+    DistantPast,
+    Exact(u64),
+    DistantFuture,
+}
+
+pub enum TimeDelta {
+    NegativeInfinity,
+    Negative(u64),
+    Positive(u64),
+    PositiveInfinity,
+}
+
+// Rust's `Instant::checked_duration_since`.
+pub fn checked_duration_since(later: u64, earlier: u64) -> OptionDuration
+    ensures { λ r. ⌜ r ≡ Time.checkedDurationSince later earlier ⌝ }
+{
+    if later < earlier {
+        return OptionDuration::None;
+    }
+    OptionDuration::Some(later - earlier)
+}
+
+// Rust's `Instant::saturating_duration_since`, which a difference of instants is too: an early instant gives 0.
+pub fn saturating_duration_since(later: u64, earlier: u64) -> u64
+    ensures { λ r. ⌜ r ≡ Time.saturatingDurationSince later earlier ⌝ }
+{
+    if later < earlier {
+        return 0;
+    }
+    later - earlier
+}
+
+fn order(a: u64, b: u64) -> Ordering
+    ensures { λ r. ⌜ r ≡ Time.order a b ⌝ }
+{
+    if a < b {
+        return Ordering::Less;
+    }
+    if b < a {
+        return Ordering::Greater;
+    }
+    Ordering::Equal
+}
+
+// a - b, as a length.
+fn difference(a: u64, b: u64) -> TimeDelta
+    ensures { λ r. ⌜ r ≡ Time.difference a b ⌝ }
+{
+    if a < b {
+        return TimeDelta::Negative(b - a);
+    }
+    TimeDelta::Positive(a - b)
+}
+
+// a + b, and MAX + 1 where that is above MAX.
+fn sum(a: u64, b: u64) -> u64
+    ensures { λ r. ⌜ r ≡ Time.sum a b ⌝ }
+{
+    if a <= MAX {
+        if b <= MAX {
+            if a + b <= MAX {
+                return a + b;
+            }
+        }
+    }
+    MAX + 1
+}
+
+fn magnitude(n: i64) -> u64
+    ensures { λ r. ⌜ r ≡ natAbs n ⌝ }
+{
+    if n >= 0 {
+        return n as u64;
+    }
+    ((-(n + 1)) as u64) + 1
+}
+
+impl TimeDelta {
+    pub const ZERO: TimeDelta = TimeDelta::Positive(0);
+
+    // Rust's `From<Duration>`.
+    pub fn from(duration: u64) -> Self
+        ensures { λ r. ⌜ r ≡ Time.positive duration ⌝ }
+    {
+        if duration <= MAX {
+            return TimeDelta::Positive(duration);
+        }
+        TimeDelta::PositiveInfinity
+    }
+
+    // The opposite of a duration.
+    fn minus(duration: u64) -> Self
+        ensures { λ r. ⌜ r ≡ Time.negative duration ⌝ }
+    {
+        if duration <= MAX {
+            return TimeDelta::Negative(duration);
+        }
+        TimeDelta::NegativeInfinity
+    }
+
+    pub fn from_secs(secs: i64) -> Self
+        ensures { λ r. ⌜ r ≡ Time.fromSecs secs ⌝ }
+    {
+        let m = magnitude(secs);
+        let mut ns = MAX + 1;
+        if m <= 4_000_000_000 {
+            ns = m * 1_000_000_000;
+        }
+        if secs >= 0 {
+            return TimeDelta::from(ns);
+        }
+        TimeDelta::minus(ns)
+    }
+
+    pub fn from_millis(millis: i64) -> Self
+        ensures { λ r. ⌜ r ≡ Time.fromMillis millis ⌝ }
+    {
+        let m = magnitude(millis);
+        let mut ns = MAX + 1;
+        if m <= 4_000_000_000_000 {
+            ns = m * 1_000_000;
+        }
+        if millis >= 0 {
+            return TimeDelta::from(ns);
+        }
+        TimeDelta::minus(ns)
+    }
+
+    // The limits above, put to a length that was given.
+    fn limited(self) -> Self
+        ensures { λ r. ⌜ r ≡ Time.limited self ⌝ }
+    {
+        match self {
+            TimeDelta::NegativeInfinity => TimeDelta::NegativeInfinity,
+            TimeDelta::Negative(d) => TimeDelta::minus(d),
+            TimeDelta::Positive(d) => TimeDelta::from(d),
+            TimeDelta::PositiveInfinity => TimeDelta::PositiveInfinity,
+        }
+    }
+
+    // The place of the length in the order of all lengths: negative zero is just below zero.
+    fn place(self) -> u64
+        ensures { λ r. ⌜ r ≡ Time.place self ⌝ }
+    {
+        match self {
+            TimeDelta::NegativeInfinity => 0,
+            TimeDelta::Negative(d) => {
+                if d <= MAX {
+                    return MAX + 1 - d;
+                }
+                0
+            }
+            TimeDelta::Positive(d) => {
+                if d <= MAX {
+                    return MAX + 2 + d;
+                }
+                2 * MAX + 3
+            }
+            TimeDelta::PositiveInfinity => 2 * MAX + 3,
+        }
+    }
+
+    pub fn cmp(self, other: TimeDelta) -> Ordering
+        ensures { λ r. ⌜ r ≡ Time.cmp self other ⌝ }
+    {
+        order(self.place(), other.place())
+    }
+
+    pub fn eq(self, other: TimeDelta) -> bool
+        ensures { λ r. ⌜ r ≡ Time.eq self other ⌝ }
+    {
+        self.place() == other.place()
+    }
+
+    pub fn lt(self, other: TimeDelta) -> bool
+        ensures { λ r. ⌜ r ≡ Time.lt self other ⌝ }
+    {
+        self.place() < other.place()
+    }
+
+    pub fn le(self, other: TimeDelta) -> bool
+        ensures { λ r. ⌜ r ≡ Time.le self other ⌝ }
+    {
+        self.place() <= other.place()
+    }
+
+    pub fn neg(self) -> Self
+        ensures { λ r. ⌜ r ≡ Time.neg self ⌝ }
+    {
+        match self {
+            TimeDelta::NegativeInfinity => TimeDelta::PositiveInfinity,
+            TimeDelta::Negative(d) => TimeDelta::from(d),
+            TimeDelta::Positive(d) => TimeDelta::minus(d),
+            TimeDelta::PositiveInfinity => TimeDelta::NegativeInfinity,
+        }
+    }
+
+    pub fn add(self, rhs: TimeDelta) -> Self
+        ensures { λ r. ⌜ r ≡ Time.add self rhs ⌝ }
+    {
+        let this = self.limited();
+        let that = rhs.limited();
+        match this {
+            TimeDelta::PositiveInfinity => TimeDelta::PositiveInfinity,
+            TimeDelta::NegativeInfinity => match that {
+                TimeDelta::NegativeInfinity => TimeDelta::NegativeInfinity,
+                TimeDelta::Negative(_) => TimeDelta::NegativeInfinity,
+                TimeDelta::Positive(_) => TimeDelta::NegativeInfinity,
+                TimeDelta::PositiveInfinity => TimeDelta::PositiveInfinity,
+            },
+            TimeDelta::Negative(a) => match that {
+                TimeDelta::NegativeInfinity => TimeDelta::NegativeInfinity,
+                TimeDelta::Negative(b) => TimeDelta::minus(sum(a, b)),
+                TimeDelta::Positive(b) => difference(b, a),
+                TimeDelta::PositiveInfinity => TimeDelta::PositiveInfinity,
+            },
+            TimeDelta::Positive(a) => match that {
+                TimeDelta::NegativeInfinity => TimeDelta::NegativeInfinity,
+                TimeDelta::Negative(b) => difference(a, b),
+                TimeDelta::Positive(b) => TimeDelta::from(sum(a, b)),
+                TimeDelta::PositiveInfinity => TimeDelta::PositiveInfinity,
+            },
+        }
+    }
+
+    // The Rust's table of differences is that of sums with the opposite length.
+    pub fn sub(self, rhs: TimeDelta) -> Self
+        ensures { λ r. ⌜ r ≡ Time.sub self rhs ⌝ }
+    {
+        self.add(rhs.neg())
+    }
+
+    // A finite length divided by 0 is the infinity of its sign.
+    pub fn div(self, rhs: u32) -> Self
+        ensures { λ r. ⌜ r ≡ Time.div self rhs ⌝ }
+    {
+        let this = self.limited();
+        match this {
+            TimeDelta::NegativeInfinity => TimeDelta::NegativeInfinity,
+            TimeDelta::Negative(d) => {
+                if rhs == 0 {
+                    return TimeDelta::NegativeInfinity;
+                }
+                TimeDelta::Negative(d / (rhs as u64))
+            }
+            TimeDelta::Positive(d) => {
+                if rhs == 0 {
+                    return TimeDelta::PositiveInfinity;
+                }
+                TimeDelta::Positive(d / (rhs as u64))
+            }
+            TimeDelta::PositiveInfinity => TimeDelta::PositiveInfinity,
+        }
+    }
+
+    pub fn as_secs_f64(self) -> f64
+        ensures { λ r. ⌜ r ≡ Time.asSecsF64 self ⌝ }
+    {
+        let this = self.limited();
+        match this {
+            TimeDelta::NegativeInfinity => -(1.0 / 0.0),
+            TimeDelta::Negative(d) => -seconds::as_secs_f64(d),
+            TimeDelta::Positive(d) => seconds::as_secs_f64(d),
+            TimeDelta::PositiveInfinity => 1.0 / 0.0,
+        }
+    }
+}
+
+impl Timestamp {
+    // Rust's `From<Instant>`.
+    pub fn from(instant: u64) -> Self
+        ensures { λ r. ⌜ r ≡ Time.exact instant ⌝ }
+    {
+        if instant <= MAX {
+            return Timestamp::Exact(instant);
+        }
+        Timestamp::DistantFuture
+    }
+
+    pub fn is_exact(self) -> bool
+        ensures { λ r. ⌜ r ≡ Time.isExact self ⌝ }
+    {
+        match self {
+            Timestamp::DistantPast => false,
+            Timestamp::Exact(t) => t <= MAX,
+            Timestamp::DistantFuture => false,
+        }
+    }
+
+    fn limited(self) -> Self
+        ensures { λ r. ⌜ r ≡ Time.limitedInstant self ⌝ }
+    {
+        match self {
+            Timestamp::DistantPast => Timestamp::DistantPast,
+            Timestamp::Exact(t) => Timestamp::from(t),
+            Timestamp::DistantFuture => Timestamp::DistantFuture,
+        }
+    }
+
+    fn place(self) -> u64
+        ensures { λ r. ⌜ r ≡ Time.placeInstant self ⌝ }
+    {
+        match self {
+            Timestamp::DistantPast => 0,
+            Timestamp::Exact(t) => {
+                if t <= MAX {
+                    return t + 1;
+                }
+                MAX + 2
+            }
+            Timestamp::DistantFuture => MAX + 2,
+        }
+    }
+
+    pub fn cmp(self, other: Timestamp) -> Ordering
+        ensures { λ r. ⌜ r ≡ Time.cmpInstant self other ⌝ }
+    {
+        order(self.place(), other.place())
+    }
+
+    // The sum with a length.
+    pub fn add(self, rhs: TimeDelta) -> Self
+        ensures { λ r. ⌜ r ≡ Time.addDelta self rhs ⌝ }
+    {
+        let this = self.limited();
+        let that = rhs.limited();
+        match that {
+            TimeDelta::PositiveInfinity => Timestamp::DistantFuture,
+            TimeDelta::NegativeInfinity => match this {
+                Timestamp::DistantPast => Timestamp::DistantPast,
+                Timestamp::Exact(_) => Timestamp::DistantPast,
+                Timestamp::DistantFuture => Timestamp::DistantFuture,
+            },
+            TimeDelta::Negative(d) => match this {
+                Timestamp::DistantPast => Timestamp::DistantPast,
+                Timestamp::Exact(t) => {
+                    if t < d {
+                        return Timestamp::DistantPast;
+                    }
+                    Timestamp::Exact(t - d)
+                }
+                Timestamp::DistantFuture => Timestamp::DistantFuture,
+            },
+            TimeDelta::Positive(d) => match this {
+                Timestamp::DistantPast => Timestamp::DistantPast,
+                Timestamp::Exact(t) => Timestamp::from(sum(t, d)),
+                Timestamp::DistantFuture => Timestamp::DistantFuture,
+            },
+        }
+    }
+
+    // The difference with a length: the sum with the opposite one, as the Rust's table has it.
+    pub fn sub(self, rhs: TimeDelta) -> Self
+        ensures { λ r. ⌜ r ≡ Time.subDelta self rhs ⌝ }
+    {
+        self.add(rhs.neg())
+    }
+
+    pub fn add_duration(self, rhs: u64) -> Self
+        ensures { λ r. ⌜ r ≡ Time.addDelta self (Time.positive rhs) ⌝ }
+    {
+        self.add(TimeDelta::from(rhs))
+    }
+
+    pub fn sub_duration(self, rhs: u64) -> Self
+        ensures { λ r. ⌜ r ≡ Time.subDelta self (Time.positive rhs) ⌝ }
+    {
+        self.sub(TimeDelta::from(rhs))
+    }
+
+    // The length from another instant to this one.
+    pub fn since(self, rhs: Timestamp) -> TimeDelta
+        ensures { λ r. ⌜ r ≡ Time.since self rhs ⌝ }
+    {
+        let this = self.limited();
+        let that = rhs.limited();
+        match this {
+            Timestamp::DistantFuture => TimeDelta::PositiveInfinity,
+            Timestamp::DistantPast => match that {
+                Timestamp::DistantPast => TimeDelta::PositiveInfinity,
+                Timestamp::Exact(_) => TimeDelta::NegativeInfinity,
+                Timestamp::DistantFuture => TimeDelta::NegativeInfinity,
+            },
+            Timestamp::Exact(a) => match that {
+                Timestamp::DistantPast => TimeDelta::PositiveInfinity,
+                Timestamp::Exact(b) => difference(a, b),
+                Timestamp::DistantFuture => TimeDelta::NegativeInfinity,
+            },
+        }
+    }
+
+    pub fn since_instant(self, rhs: u64) -> TimeDelta
+        ensures { λ r. ⌜ r ≡ Time.since self (Time.exact rhs) ⌝ }
+    {
+        self.since(Timestamp::from(rhs))
+    }
+}
+
+// Rust's `DataSize / TimeDelta`: the rate that moves the size in the length, and 0 where that is a zero.
+pub fn rate(size: DataSize, length: TimeDelta) -> Bitrate
+    ensures { λ r. ⌜ r ≡ Time.rate size length ⌝ }
+{
+    let bytes = size.as_bytes_f64();
+    let s = length.as_secs_f64();
+    if s == 0.0 {
+        return Bitrate::ZERO;
+    }
+    Bitrate((bytes * 8.0) / s)
+}
