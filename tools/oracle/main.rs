@@ -1,0 +1,85 @@
+//! The oracle: the Rust of the documents' folder, with shims for what its modules lean on. `build` beside this file compiles it.
+//!
+//!     oracle make MODULE SEED COUNT     cases with the Rust's answers, to standard output
+//!
+//! A case is 12 words of 8 bytes, little-endian: an operation, 5 inputs, 6 answers. drive.rs has the operations, make.rs the cases.
+#[macro_export]
+macro_rules! log_stat {
+    ($($arg:tt)*) => {};
+}
+
+macro_rules! trace {
+    ($($arg:tt)*) => {};
+}
+
+mod bandwidth;
+pub use bandwidth::Bitrate;
+
+mod table;
+
+/// What stands in for `powf(1.08, seconds)`: the table at whole ms, at most 1,000.
+pub fn growth_factor(since: std::time::Duration) -> f64 {
+    f64::from_bits(table::FACTORS[(since.as_millis() as usize).min(1000)])
+}
+
+mod rtp_ {
+    pub use crate::bandwidth::{Bitrate, DataSize};
+
+    #[derive(Debug, Clone, Copy, PartialEq, Eq, PartialOrd, Ord)]
+    pub struct TwccSeq(pub u64);
+}
+
+mod average;
+
+mod util {
+    pub use crate::average::MovingAverage;
+    use std::sync::LazyLock;
+    use std::time::{Duration, Instant};
+
+    static START: LazyLock<Instant> = LazyLock::new(|| Instant::now() + Duration::from_secs(10_000));
+
+    /// Instant 0 of the cases.
+    pub fn zero() -> Instant {
+        *START
+    }
+
+    /// An hour before instant 0: before the first report its age is over any limit.
+    pub fn already_happened() -> Instant {
+        zero() - Duration::from_secs(3600)
+    }
+}
+
+mod bwe {
+    use crate::rtp_::{Bitrate, DataSize, TwccSeq};
+    use std::cmp::Ordering;
+    use std::fmt;
+    use std::time::{Duration, Instant};
+
+    mod acked_bitrate_estimator;
+    mod macros;
+    mod time;
+
+    pub mod delay {
+        pub mod arrival_group;
+        pub mod control;
+        pub mod rate_control;
+        pub mod trendline;
+    }
+
+    include!("items.rs");
+
+    pub mod drive;
+}
+
+mod make;
+
+fn main() {
+    let words: Vec<String> = std::env::args().collect();
+    match words.get(1).map(String::as_str) {
+        Some("make") if words.len() == 5 => make::make(&words[2], words[3].parse().unwrap(), words[4].parse().unwrap()),
+        _ => {
+            eprintln!("usage: oracle make MODULE SEED COUNT");
+            std::process::exit(2);
+        }
+    }
+}
