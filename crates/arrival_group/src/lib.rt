@@ -125,12 +125,15 @@ impl ArrivalGroup {
         let OptionDuration::Some(first_send_delta) = since else {
             return Belongs::Skipped;
         };
-        let send_time_delta = Timestamp::from(local_send_time).since_instant(self.local_send_time());
+        let send_time_delta = Timestamp::from(
+            local_send_time,
+        ).since_instant(self.local_send_time());
         if send_time_delta.eq(TimeDelta::ZERO) {
             return Belongs::Yes;
         }
-        let arrival_time_delta =
-            Timestamp::from(remote_recv_time).since_instant(self.remote_recv_time());
+        let arrival_time_delta = Timestamp::from(
+            remote_recv_time,
+        ).since_instant(self.remote_recv_time());
         let propagation_delta = arrival_time_delta.sub(send_time_delta);
         let burst = time::saturating_duration_since(remote_recv_time, first_remote_recv_time);
         if propagation_delta.lt(TimeDelta::ZERO)

@@ -1,5 +1,6 @@
 // Rust's `f64::min`, `max`, `clamp`, `abs` and `ceil`, for every input.
 ghost use mathlib.Core.Path.{_≡_};
+ghost use lib.Ieee.{toUnsigned};
 ghost use Rattle.float.specs.Float.{min, max, clamp, abs, ceil};
 
 // The smaller of the two; where one is a NaN the other; where they are equal the first.
@@ -65,4 +66,17 @@ pub fn ceil(x: f64) -> f64
         return -(std::num::truncating_f64_to_u64(-x) as f64);
     }
     x
+}
+
+// Rust's `x as u64`: the whole part, held to the range of u64, and 0 for a NaN.
+pub fn as_u64(x: f64) -> u64
+    ensures { λ r. ⌜ r ≡ toUnsigned 64 x ⌝ }
+{
+    if x >= 18446744073709551616.0 {
+        return 18446744073709551615;
+    }
+    if x > 0.0 {
+        return std::num::truncating_f64_to_u64(x);
+    }
+    0
 }

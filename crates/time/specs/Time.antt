@@ -1,5 +1,5 @@
 -- src/bwe/time.rs: what each operation on instants and lengths of time gives. Numbers are ns.
-use Prim.Native.Nat.{ℕ, suc, _+_, _-_, _*_, _/_, _^_}
+use Prim.Native.Nat.{ℕ, suc, _+_, _-_, _*_, _/_, _^_, min}
 use mathlib.Core.Bool.{Bool, true, false, cond}
 use lib.Dec.{leb, ltb, eqb}
 use lib.IntN.{ℤ, pos, negsuc}
@@ -10,6 +10,8 @@ use Rattle.seconds.specs.Seconds as Seconds
 use Rattle.bandwidth.specs.Bandwidth as Bandwidth
 use Rattle.bandwidth.specs.declared.Bitrate.{Bitrate}
 use Rattle.bandwidth.specs.declared.DataSize.{DataSize}
+use Rattle.time.specs.declared.OptionInstant.{OptionInstant}
+use Rattle.time.specs.declared.OptionInstant.the-variants as Instant
 use Rattle.time.specs.declared.OptionDuration.{OptionDuration}
 use Rattle.time.specs.declared.OptionDuration.the-variants as Duration
 use Rattle.time.specs.declared.Ordering.{Ordering}
@@ -30,6 +32,13 @@ checkedDurationSince later earlier = cond (ltb later earlier) Duration.None (Dur
 -- early instants subtract to 0
 abbrev pub saturatingDurationSince : ℕ → ℕ → ℕ
 saturatingDurationSince later earlier = later - earlier
+
+unfoldable pub saturatingAdd : ℕ → ℕ → ℕ
+saturatingAdd a b = min (a + b) (2 ^ 64 - 1)
+
+abbrev pub instantOr : OptionInstant → ℕ → ℕ
+instantOr Instant.None other = other
+instantOr (Instant.Some t) other = t
 
 -- ---- the added limits: a finite length above the limit is the infinity of its sign, such an instant `DistantFuture`
 unfoldable pub positive : ℕ → TimeDelta

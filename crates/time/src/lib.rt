@@ -62,6 +62,26 @@ pub fn saturating_duration_since(later: u64, earlier: u64) -> u64
     later - earlier
 }
 
+// A sum of ns; past the end of u64, that end.
+pub fn saturating_add(a: u64, b: u64) -> u64
+    ensures { λ r. ⌜ r ≡ Time.saturatingAdd a b ⌝ }
+{
+    if b <= 18446744073709551615 - a {
+        return a + b;
+    }
+    18446744073709551615
+}
+
+// The instant, or another where there is none.
+pub fn instant_or(instant: OptionInstant, other: u64) -> u64
+    ensures { λ r. ⌜ r ≡ Time.instantOr instant other ⌝ }
+{
+    match instant {
+        OptionInstant::None => other,
+        OptionInstant::Some(t) => t,
+    }
+}
+
 fn order(a: u64, b: u64) -> Ordering
     ensures { λ r. ⌜ r ≡ Time.order a b ⌝ }
 {
