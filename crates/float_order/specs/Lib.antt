@@ -1,3 +1,4 @@
+pub mod Arith
 pub mod Order
 pub mod Round
 pub mod Ops
