@@ -3,7 +3,7 @@ use mathlib.Core.Path.{_≡_, sym, ap, _∙_}
 use mathlib.Core.Logic.{_⊎_, inl, inr}
 use mathlib.Core.Bool.{Bool, true, false, not}
 use Prim.Native.Nat.{ℕ, suc, _+_, _-_, _*_, _^_, _≤_, _<_}
-use native.Mathlib.Nat.{mul-comm, mul-assoc, mul-left-comm, add-mul, mul-add, le-of-suc-le-suc, lt-of-not-le, not-le-of-lt}
+use native.Mathlib.Nat.{mul-comm, mul-assoc, mul-left-comm, add-mul, mul-add, mul-sub, le-of-suc-le-suc, lt-of-not-le, not-le-of-lt}
 use native.Mathlib.Omega.{arith}
 use lib.Dec.{T}
 use lib.Pow.{pow-add, pow-lt}
@@ -25,3 +25,9 @@ pow-split i j h = let e : j - i + i ≡ j = omega arith in sym (pow-add 2 (j - i
 -- |a - b|
 abbrev pub dist : ℕ → ℕ → ℕ
 dist a b = (a - b) + (b - a)
+
+pub sub-mul : (a b c : ℕ) → (a - b) * c ≡ a * c - b * c
+sub-mul a b c = rw (mul-comm (a - b) c, mul-sub c a b, mul-comm c a, mul-comm c b)
+
+pub dist-mul : (a b c : ℕ) → dist (a * c) (b * c) ≡ dist a b * c
+dist-mul a b c = rw (← sub-mul a b c, ← sub-mul b a c, ← add-mul (a - b) (b - a) c)

@@ -12,6 +12,7 @@ pub mod Plus
 pub mod Error
 pub mod Relative
 pub mod Dyadic
+pub mod Equal
 pub mod Gaps
 pub mod Casts
 pub mod Digits
