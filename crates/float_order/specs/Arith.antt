@@ -2,7 +2,7 @@
 use mathlib.Core.Path.{_≡_, sym, ap, _∙_}
 use mathlib.Core.Logic.{_⊎_, inl, inr}
 use mathlib.Core.Bool.{Bool, true, false, not}
-use Prim.Native.Nat.{ℕ, suc, _+_, _-_, _*_, _^_, _≤_, _<_}
+use Prim.Native.Nat.{ℕ, suc, _+_, _-_, _*_, _^_, _≤_}
 use native.Mathlib.Nat.{mul-comm, mul-assoc, mul-left-comm, add-mul, mul-add, mul-sub, le-of-suc-le-suc, lt-of-not-le, not-le-of-lt}
 use native.Mathlib.Omega.{arith}
 use lib.Dec.{T}

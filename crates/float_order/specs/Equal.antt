@@ -3,19 +3,19 @@
 use mathlib.Core.Path.{_≡_, sym, ap, _∙_, subst}
 use mathlib.Core.Logic.{inl, inr}
 use Prim.Native.Nat.{ℕ, _+_, _-_, _*_, _^_, _≤_, _<_}
-use native.Mathlib.Nat.{le-trans as nat-le-trans, le-of-eq as nat-le-of-eq, lt-of-le-of-lt, lt-of-lt-of-le, le-of-mul-le-mul-right, mul-le-mul-right, mul-lt-mul-of-pos-right, mul-pos, mul-assoc, mul-right-comm, le-of-lt}
+use native.Mathlib.Nat.{le-trans as nat-le-trans, le-of-eq as nat-le-of-eq, lt-of-le-of-lt, lt-of-lt-of-le, le-of-mul-le-mul-right, mul-le-mul-right, mul-lt-mul-of-pos-right, mul-pos, mul-assoc, le-of-lt}
 use native.Mathlib.Omega.{arith}
 use mathlib.Core.Bool.{true, false}
 use lib.Dec.{T, leb, leb→le, nleb→lt}
 use lib.Pow.{pow-pos}
-use lib.Ieee.{Float, nan, inf, fin, binary64, le, neg, round, add, sub, mul, div, fits}
+use lib.Ieee.{Float, nan, inf, fin, binary64, le, round, add, sub, mul, div, fits}
 use lib.Ieee.Scale.{finite}
-use lib.Ieee.Positive.{num, den, den-pos, positive}
+use lib.Ieee.Positive.{den, den-pos, positive}
 use Rattle.float_order.specs.Arith.{either, dist, dist-mul, pow-split}
 use Rattle.float_order.specs.Order.{over, under, le→cross, cross→le, cross-trans, over-neg, under-neg, den-neg, finite-neg}
 use Rattle.float_order.specs.Round.{Rounds, neg-round}
 use Rattle.float_order.specs.Ops.{zero₊, add-rounds, sub-rounds, mul-rounds, div-rounds, nonneg-under, positive-over}
-use Rattle.float_order.specs.Dyadic.{Dyadic, Is, dyadic-is, dyadic-over, over-num, float-high}
+use Rattle.float_order.specs.Dyadic.{Dyadic, dyadic-is, dyadic-over, over-num, float-high}
 use Rattle.float_order.specs.Relative.{add-size, sub-size, mul-size, div-size}
 
 -- ---- z is finite and equal to (p - n) / d
@@ -131,8 +131,8 @@ sterbenz x y p q f g zx zy h k =
     let H : over x * den y ≤ 2 * (over y * den x) = double-cross x y p q u h in
     let K : over y * den x ≤ 2 * (over x * den y) = double-cross y x q p v k in
     let d = either-digits (X .digits) (X .shift) (Y .digits) (Y .shift) (X .few) (Y .few)
-            (in-units (over x) (den x) (over y) (den y) A B (2 ^ 1074) C (X .value) (Y .value) H)
-            (in-units (over y) (den y) (over x) (den x) B A (2 ^ 1074) (mul-pos (den-pos y) (den-pos x)) (Y .value) (X .value) K) in
+    (in-units (over x) (den x) (over y) (den y) A B (2 ^ 1074) C (X .value) (Y .value) H)
+    (in-units (over y) (den y) (over x) (den x) B A (2 ^ 1074) (mul-pos (den-pos y) (den-pos x)) (Y .value) (X .value) K) in
     let e : sub-size x y ≡ dist (over x * den y) (over y * den x) = rw (u, v) (plain (over x * den y) (over y * den x) (den x) (den y)) in
     sub-exact x y p q
     (record {

@@ -1,24 +1,21 @@
 -- Between two neighbours of the format there is no other float. So a bound that is no float, such as 10 ^ 30 or 0.8, can be tested against the float next to it.
 -- The neighbours are m and m + 1 times 2 ^ k of the smallest values, for an m of 53 digits.
-use mathlib.Core.Path.{_≡_, refl, sym, ap, _∙_, subst}
-use mathlib.Core.Logic.{_⊎_, inl, inr}
-use Prim.Native.Nat.{ℕ, zero, suc, _+_, _-_, _*_, _^_, _≤_, _<_}
-use native.Mathlib.Nat.{le-trans as nat-le-trans, le-of-eq as nat-le-of-eq, lt-of-lt-of-le, lt-of-le-of-lt, le-of-lt, le-of-suc-le-suc, lt-of-not-le, mul-one, one-mul, mul-comm as nat-mul-comm, mul-assoc, mul-left-comm, mul-right-comm, mul-le-mul-right, mul-le-mul-left, mul-lt-mul-of-pos-right, lt-of-mul-lt-mul-right, le-of-mul-le-mul-right, mul-pos, zero-lt-suc}
+use mathlib.Core.Path.{_≡_, sym, ap, _∙_}
+use mathlib.Core.Logic.{inl, inr}
+use Prim.Native.Nat.{ℕ, suc, _+_, _-_, _*_, _^_, _≤_, _<_}
+use native.Mathlib.Nat.{le-trans as nat-le-trans, le-of-eq as nat-le-of-eq, lt-of-lt-of-le, lt-of-le-of-lt, le-of-lt, le-of-suc-le-suc, lt-of-not-le, mul-assoc, mul-right-comm, mul-le-mul-right, mul-lt-mul-of-pos-right, lt-of-mul-lt-mul-right, le-of-mul-le-mul-right}
 use native.Mathlib.Omega.{arith}
-use mathlib.Core.Bool.{Bool, true, false, not, _&&_}
-use lib.IntN.{ℤ, pos, negsuc}
-use lib.Dec.{T, leb, leb→le, nleb→lt, lit≤, lit<}
+use mathlib.Core.Bool.{false}
+use lib.IntN.{pos}
+use lib.Dec.{T, leb, leb→le, nleb→lt}
 use lib.Pow.{pow-add, pow-pos, pow-mono}
-use lib.Ieee.{Float, nan, inf, fin, binary64, le, lt, neg, fits, ofBits}
-use lib.Ieee.Fits.{neg-fits}
+use lib.Ieee.{Float, fin, binary64, le, lt, fits}
 use lib.Ieee.Scale.{finite}
-use lib.Ieee.Positive.{den, den-pos}
+use lib.Ieee.Positive.{den}
 use Rattle.float_order.specs.Arith.{either, pow-split}
-use Rattle.float_order.specs.Order.{over, under, lt→le, le→cross, cross→le, le-trans, lt-le-trans, lt→not-le, not-lt→le, not-le→lt, le-lt-trans, finite-ordered, finite-neg, neg-le, neg-neg}
+use Rattle.float_order.specs.Order.{over, under, cross→le, lt→not-le}
 use Rattle.float_order.specs.Ops.{zero₊, nonneg-under}
-use Rattle.float_order.specs.Range.{In, nat, -nat, in-finite, in-wider}
-use Rattle.float_order.specs.Interval.{floats}
-use Rattle.float_order.specs.Dyadic.{Dyadic, dyadic-over}
+use Rattle.float_order.specs.Dyadic.{dyadic-over}
 
 -- q * 2 ^ i below (m + 1) * 2 ^ k is m * 2 ^ k at most
 grid-gap : (q i m k : ℕ) → q < 2 ^ 53 → 2 ^ 52 ≤ m → q * 2 ^ i < suc m * 2 ^ k → q * 2 ^ i ≤ m * 2 ^ k

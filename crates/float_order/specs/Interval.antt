@@ -1,15 +1,13 @@
 -- Ranges with ends that are worked out, not written: each lemma gives the range of a result by the ends of the operands' ranges, as terms that compute.
 -- A chain of them needs no range in between. At its end `in-wider h (unfold floats in tt)` compares the ends with those that are wanted.
 -- Each asks that the operands' ends are finite: `unfold floats in tt`, or `tt` where they are literals.
-use mathlib.Core.Path.{_≡_}
 use mathlib.Core.Bool.{Bool, true, false, not, _&&_, cond}
 use lib.Dec.{T}
 use lib.Ieee.{Float, binary64, ofBits, ofInt, round, lt, le, eq, ne, isNan, neg, add, sub, mul, div}
 use lib.Ieee.Fits.{and-i}
 use lib.Ieee.Scale.{finite}
-use lib.Ieee.Positive.{positive, positive-finite}
+use lib.Ieee.Positive.{positive}
 use Rattle.float_order.specs.Order.{ordered, le-refl, le-trans, le-ordered-l, le-ordered-r, lt→le, not-le→lt, neg-le}
-use Rattle.float_order.specs.Round.{Rounds}
 use Rattle.float_order.specs.Ops.{add-ordered, sub-ordered, mul-ordered, div-by-positive}
 use Rattle.float_order.specs.Range.{In, ends, inside, inside₄, four, add-in, sub-in, mul-in, div-in}
 

@@ -17,3 +17,4 @@ pub mod Gaps
 pub mod Casts
 pub mod Digits
 pub mod Bits
+pub mod Examples

@@ -1,6 +1,6 @@
 -- The exact sum x + k of a float and a whole number: `fin s m e` is m * 2 ^ e for an m of any size, so it holds a sum that no format does, and `le` compares
 -- the exact numbers. `climb` says that a rounded sum gains a whole number exactly, up to one; `plus-trans` adds up such steps.
-use mathlib.Core.Path.{_≡_, refl, sym, ap, _∙_, subst}
+use mathlib.Core.Path.{_≡_, refl, ap}
 use Prim.Native.Nat.{ℕ, suc, _+_, _-_, _*_, _^_, _≤_, _<_}
 use native.Mathlib.Nat.{mul-le-mul-right, mul-lt-mul-of-pos-right, mul-pos, zero-lt-suc}
 use native.Mathlib.Omega.{arith}
@@ -10,7 +10,6 @@ use lib.Dec.{T, leb, leb→le, nleb→lt}
 use lib.Ieee.{Float, nan, inf, fin, binary64, up, down, le, round, add}
 use lib.Ieee.Scale.{finite}
 use lib.Ieee.Positive.{den, den-pos}
-use Rattle.float_order.specs.Arith.{either}
 use Rattle.float_order.specs.Order.{over, under, le→cross, cross→le, le-refl, le-trans, le-ordered-r, finite-ordered}
 use Rattle.float_order.specs.Ops.{zero₊, add-rounds, add-ordered, add-finite-ordered, add-mono-any, nonneg-under}
 use Rattle.float_order.specs.Range.{In, nat, in-finite}
