@@ -31,7 +31,8 @@ written r j l h =
     let k : size (r * 2 ^ j) - 53 ≡ j = omega arith in
     ap (λ (x : ℕ). x * 2 ^ 52 + r * 2 ^ j / 2 ^ x) k ∙ ap (λ (x : ℕ). j * 2 ^ 52 + x) (shl-shr r j)
 
-pub to-bits : (x : Float) (a c r j : ℕ) → 0 < c → HasValue x false a c → a * 2 ^ 1074 ≡ r * 2 ^ j * c → 2 ^ 52 ≤ r → r < 2 ^ 53 → toBits binary64 x ≡ j * 2 ^ 52 + r
+pub to-bits : (x : Float) (a c r j : ℕ) → 0 < c → HasValue x false a c → a * 2 ^ 1074 ≡ r * 2 ^ j * c → 2 ^ 52 ≤ r → r < 2 ^ 53
+    → toBits binary64 x ≡ j * 2 ^ 52 + r
 unfolding toBits
 to-bits (fin true m e) a c r j p v k l h = absurd (clash (v .0))
   where

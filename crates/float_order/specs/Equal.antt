@@ -118,7 +118,8 @@ either-digits a j b k A B h t = elim (either (leb j k)) [
     turn : (m n : ℕ) → dist m n ≡ dist n m
     turn m n = omega arith
 
-pub sterbenz : (x y : Float) → T (finite x) → T (finite y) → T (fits binary64 x) → T (fits binary64 y) → T (le zero₊ x) → T (le zero₊ y) → T (le x (double y)) → T (le y (double x))
+pub sterbenz : (x y : Float) → T (finite x) → T (finite y) → T (fits binary64 x) → T (fits binary64 y) → T (le zero₊ x) → T (le zero₊ y) → T (le x (double y))
+    → T (le y (double x))
     → IsDiff (sub binary64 x y) (over x * den y + under y * den x) (under x * den y + over y * den x) (den x * den y)
 sterbenz x y p q f g zx zy h k =
     let u : under x ≡ 0 = nonneg-under x p zx in

@@ -35,7 +35,8 @@ grid-gap q i m k Q M h = elim (either (leb k i)) [ inl t ↦ coarse (leb→le k 
         (nat-le-trans (nat-le-of-eq (sym (pow-add 2 53 i))) (nat-le-trans (pow-mono (past i k l)) (nat-le-trans (nat-le-of-eq (pow-add 2 52 k)) (mul-le-mul-right (2 ^ k) M))))
 
 -- of a float x ≥ 0
-pub gap : (x : Float) (m k : ℕ) → T (finite x) → T (fits binary64 x) → under x ≡ 0 → 2 ^ 52 ≤ m → over x * 2 ^ 1074 < suc m * 2 ^ k * den x → over x * 2 ^ 1074 ≤ m * 2 ^ k * den x
+pub gap : (x : Float) (m k : ℕ) → T (finite x) → T (fits binary64 x) → under x ≡ 0 → 2 ^ 52 ≤ m → over x * 2 ^ 1074 < suc m * 2 ^ k * den x
+    → over x * 2 ^ 1074 ≤ m * 2 ^ k * den x
 gap x m k p f u M h =
     let g = dyadic-over x p f u in
     nat-le-trans (nat-le-of-eq (g .value)) (mul-le-mul-right (den x) (grid-gap (g .digits) (g .shift) m k (g .few) M (lt-of-mul-lt-mul-right (den x) (lt-of-le-of-lt (nat-le-of-eq (sym (g .value))) h))))
@@ -50,7 +51,8 @@ read-lt x n j p u h =
     let l : over x < n * 2 ^ j * den x = lt-of-not-le (λ (g : n * 2 ^ j * den x ≤ over x). lt→not-le x v h (cross→le v x tt p (rw u (omega arith)))) in
     lt-of-lt-of-le (mul-lt-mul-of-pos-right l (pow-pos 1074)) (nat-le-of-eq (shift-units n j x))
 
-pub gap-large : (x : Float) (m j : ℕ) → T (finite x) → T (fits binary64 x) → T (le zero₊ x) → 2 ^ 52 ≤ m → T (lt x (fin false (suc m) (pos j))) → T (le x (fin false m (pos j)))
+pub gap-large : (x : Float) (m j : ℕ) → T (finite x) → T (fits binary64 x) → T (le zero₊ x) → 2 ^ 52 ≤ m → T (lt x (fin false (suc m) (pos j)))
+    → T (le x (fin false m (pos j)))
 gap-large x m j p f z M h =
     let u = nonneg-under x p z in
     let g : over x * 2 ^ 1074 ≤ m * 2 ^ (j + 1074) * den x = gap x m (j + 1074) p f u M (read-lt x (suc m) j p u h) in

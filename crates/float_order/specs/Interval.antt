@@ -24,7 +24,8 @@ cond-either P true x y p q = p
 cond-either P false x y p q = q
 
 module _ (x y : Float) (X : T (ordered x)) (Y : T (ordered y)) where
-  sorted : (b : Bool) → (T b → T (le x y)) → (T (not b) → T (le y x)) → T (le (cond b x y) x) × T (le (cond b x y) y) × T (le x (cond b y x)) × T (le y (cond b y x))
+  sorted : (b : Bool) → (T b → T (le x y)) → (T (not b) → T (le y x))
+      → T (le (cond b x y) x) × T (le (cond b x y) y) × T (le x (cond b y x)) × T (le y (cond b y x))
   sorted true f g = (le-refl x X, f tt, f tt, le-refl y Y)
   sorted false f g = (g tt, le-refl y Y, le-refl x X, g tt)
 

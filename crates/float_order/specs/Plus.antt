@@ -83,7 +83,8 @@ plus-more x k p =
     let s = plus-exact x k p in
     cross→le x (plus x k) p (s .fine) (rw (s .scale) (omega (arith, ap (λ (z : ℕ). z * den x) (s .value))))
 
-up-by : (ox ux dx oz uz dz op up k j : ℕ) → op + uz ≡ oz + up + j * dz → (ox + k * dx) * dz + uz * dx ≤ oz * dx + ux * dz → (ox + (k + j) * dx) * dz + up * dx ≤ op * dx + ux * dz
+up-by : (ox ux dx oz uz dz op up k j : ℕ) → op + uz ≡ oz + up + j * dz → (ox + k * dx) * dz + uz * dx ≤ oz * dx + ux * dz
+    → (ox + (k + j) * dx) * dz + up * dx ≤ op * dx + ux * dz
 up-by ox ux dx oz uz dz op up k j e h = omega (arith, ap (λ (z : ℕ). z * dx) e)
 
 pub plus-plus : (x z : Float) (k j : ℕ) → T (finite x) → T (finite z) → T (le (plus x k) z) → T (le (plus x (k + j)) (plus z j))
