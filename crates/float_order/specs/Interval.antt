@@ -78,7 +78,8 @@ pub mul-at : {a b c d x y : Float} → In a b x → In c d y → T (ends a b c d
 mul-at {a} {b} {c} {d} h k E =
     let F = four (finite a) (finite b) (finite c) (finite d) E in
     let o = mul-ordered binary64 in
-    mul-in h k (and-i (ends a b c d) _ E (within₄ (mul binary64 a c) (mul binary64 a d) (mul binary64 b c) (mul binary64 b d) (o a c (F .0) (F .2)) (o a d (F .0) (F .3)) (o b c (F .1) (F .2)) (o b d (F .1) (F .3))))
+    mul-in h k (and-i (ends a b c d) _ E
+    (within₄ (mul binary64 a c) (mul binary64 a d) (mul binary64 b c) (mul binary64 b d) (o a c (F .0) (F .2)) (o a d (F .0) (F .3)) (o b c (F .1) (F .2)) (o b d (F .1) (F .3))))
 
 -- the divisor's ends are above zero
 pub div-at : {a b c d x y : Float} → In a b x → In c d y → T ((finite a && finite b) && (positive c && positive d))
@@ -86,7 +87,8 @@ pub div-at : {a b c d x y : Float} → In a b x → In c d y → T ((finite a &&
 div-at {a} {b} {c} {d} h k E =
     let F = four (finite a) (finite b) (positive c) (positive d) E in
     let o = div-by-positive binary64 in
-    div-in h k (and-i ((finite a && finite b) && (positive c && positive d)) _ E (within₄ (div binary64 a c) (div binary64 a d) (div binary64 b c) (div binary64 b d) (o a c (F .0) (F .2)) (o a d (F .0) (F .3)) (o b c (F .1) (F .2)) (o b d (F .1) (F .3))))
+    div-in h k (and-i ((finite a && finite b) && (positive c && positive d)) _ E
+    (within₄ (div binary64 a c) (div binary64 a d) (div binary64 b c) (div binary64 b d) (o a c (F .0) (F .2)) (o a d (F .0) (F .3)) (o b c (F .1) (F .2)) (o b d (F .1) (F .3))))
 
 -- `unfold floats in tt` opens every operation at once: what is left must be closed, that is, hold no variable
 unfoldable pub floats : Bool

@@ -24,6 +24,9 @@ nat-le a b h = cross→le (nat a) (nat b) tt tt (omega arith)
 pub nat-le-back : (a b : ℕ) → T (le (nat a) (nat b)) → a ≤ b
 nat-le-back a b t = omega (arith, le→cross (nat a) (nat b) tt tt t)
 
+pub not-below : (a : ℕ) (x : Float) → T (le (nat a) x) → T (le zero₊ x)
+not-below a x h = le-trans zero₊ (nat a) x (nat-le 0 a (omega arith)) h
+
 -- a ≤ x and x ≤ a, as natural numbers
 pub at-least : (a : ℕ) (x : Float) → T (finite x) → T (le (nat a) x) → a * den x + under x ≤ over x
 at-least a x p h = omega (arith, le→cross (nat a) x tt p h)
@@ -80,8 +83,8 @@ module _ (a b : ℕ) (x y : Float) (p : T (finite x)) (q : T (finite y)) where
 
   pub mul-whole : a * b ≤ 2 ^ 53 → T (le (nat a) x) → T (le (nat b) y) → T (le (nat (a * b)) (mul binary64 x y))
   mul-whole s h k =
-      let zx : under x ≡ 0 = nonneg-under x p (le-trans zero₊ (nat a) x (nat-le 0 a (omega arith)) h) in
-      let zy : under y ≡ 0 = nonneg-under y q (le-trans zero₊ (nat b) y (nat-le 0 b (omega arith)) k) in
+      let zx : under x ≡ 0 = nonneg-under x p (not-below a x h) in
+      let zy : under y ≡ 0 = nonneg-under y q (not-below b y k) in
       let ux : a * den x ≤ over x = omega (arith, at-least a x p h) in
       let uy : b * den y ≤ over y = omega (arith, at-least b y q k) in
       whole-low (a * b) _ _ _ (mul binary64 x y) s D (mul-rounds binary64 x y p q) (rw (zx, zy) (omega (arith, mul-le-mul ux uy)))
@@ -120,5 +123,5 @@ module _ {a a' b b' : ℕ} {x y : Float} (h : In (nat a) (nat a') x) (k : In (na
   pub mul-whole-in : a' * b' ≤ 2 ^ 53 → In (nat (a * b)) (nat (a' * b')) (mul binary64 x y)
   mul-whole-in s = record {
     low = mul-whole a b x y p q (nat-le-trans (mul-le-mul la lb) s) (h .low) (k .low);
-    high = mul-whole-up a' b' x y p q s (le-trans zero₊ (nat a) x (nat-le 0 a (omega arith)) (h .low)) (h .high) (le-trans zero₊ (nat b) y (nat-le 0 b (omega arith)) (k .low)) (k .high);
+    high = mul-whole-up a' b' x y p q s (not-below a x (h .low)) (h .high) (not-below b y (k .low)) (k .high);
   }
