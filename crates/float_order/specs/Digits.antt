@@ -74,7 +74,8 @@ closest-near n u h = half (compare (n % u * 2) u) (n / u) (n % u) u n (cmp (n % 
 
 -- a whole number stays
 pub closest-whole : (x n u : ℕ) → 0 < u → n ≡ x * u → closest n u * u ≡ n
-closest-whole x n u h e = go (compare (n % u * 2) u) (n / u) (n % u) (cmp (n % u * 2) u) (ap (λ (z : ℕ). z / u) e ∙ mul-div-cancel x h) (ap (λ (z : ℕ). z % u) e ∙ mul-mod-left x u)
+closest-whole x n u h e =
+    go (compare (n % u * 2) u) (n / u) (n % u) (cmp (n % u * 2) u) (ap (λ (z : ℕ). z / u) e ∙ mul-div-cancel x h) (ap (λ (z : ℕ). z % u) e ∙ mul-mod-left x u)
   where
     go : (o : Ordering) (q r : ℕ) → Cmp o (r * 2) u → q ≡ x → r ≡ 0 → nearest q o * u ≡ n
     go Ordering·lt q r c i j = ap (λ (z : ℕ). z * u) i ∙ sym e

@@ -43,7 +43,8 @@ gap x m k p f u M h =
 
 -- from 2 ^ 52 on: x < (m + 1) * 2 ^ j is x ≤ m * 2 ^ j
 shift-units : (n j : ℕ) (x : Float) → n * 2 ^ j * den x * 2 ^ 1074 ≡ n * 2 ^ (j + 1074) * den x
-shift-units n j x = mul-right-comm (n * 2 ^ j) (den x) (2 ^ 1074) ∙ ap (λ (z : ℕ). z * den x) (mul-assoc n (2 ^ j) (2 ^ 1074) ∙ ap (λ (z : ℕ). n * z) (sym (pow-add 2 j 1074)))
+shift-units n j x =
+    mul-right-comm (n * 2 ^ j) (den x) (2 ^ 1074) ∙ ap (λ (z : ℕ). z * den x) (mul-assoc n (2 ^ j) (2 ^ 1074) ∙ ap (λ (z : ℕ). n * z) (sym (pow-add 2 j 1074)))
 
 read-lt : (x : Float) (n j : ℕ) → T (finite x) → under x ≡ 0 → T (lt x (fin false n (pos j))) → over x * 2 ^ 1074 < n * 2 ^ (j + 1074) * den x
 read-lt x n j p u h =
