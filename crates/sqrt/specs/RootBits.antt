@@ -1,0 +1,12 @@
+-- A root's bit pattern, by two whole numbers: what the code's parts say to each other.
+use Prim.Native.Nat.{ℕ, _+_, _-_, _*_, _/_, _^_, _≤_}
+use Rattle.sqrt.specs.Sqrt.{wholeRoot}
+
+-- The whole root of big * 2 ^ 54 has 54 digits. Half of it, rounded up, is the significand, 53 digits, and base adds the exponent.
+abbrev pub rootBits : ℕ → ℕ → ℕ
+rootBits big base = base + (wholeRoot (big * 2 ^ 54) + 1) / 2
+
+pub record Sized (big base : ℕ) : Type 0 where
+  pub low : 2 ^ 52 ≤ big
+  pub high : big ≤ 2 ^ 54 - 2
+  pub small : base ≤ 2045 * 2 ^ 52
