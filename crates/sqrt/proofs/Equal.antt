@@ -5,7 +5,7 @@ use mathlib.Core.Bool.{Bool, true, false, not, _||_, Bool·beq}
 use Prim.Native.Nat.{ℕ, suc, _+_, _-_, _*_, _/_, _%_, _^_, _≤_, _<_}
 use native.Mathlib.Nat.{mul-pos, zero-mul, eq-of-mul-eq-mul-right}
 use native.Mathlib.Omega.{arith}
-use lib.Dec.{T, T-not, eqb, eqb→eq, ltb→lt}
+use lib.Dec.{T, eqb, eqb→eq, ltb→lt}
 use lib.IntN.{ℤ}
 use lib.Pow.{pow-pos}
 use lib.Ieee.{Float, nan, inf, fin, binary64, up, down, ofBits, toBits, fits, isNan, eq, le, level}
@@ -35,10 +35,13 @@ eq-zero (fin t n k) s e = both (level t a s b) (eqb (n * up k) 0) (λ h. eq→eq
   where
     a : ℕ
     a = n * up k * down e
+
     b : ℕ
     b = 0 * up e * down k
+
     none : a ≡ b → n * up k ≡ 0
     none q = eq-of-mul-eq-mul-right (down e) (down-pos e) (n * up k) 0 (omega (arith, q))
+
     all : n * up k ≡ 0 → T (level t a s b)
     all q = let z : a ≡ 0 = ap (λ (x : ℕ). x * down e) q ∙ zero-mul (down e) in and-i (eqb a b) (Bool·beq t s || eqb a 0) (eq→eqb {a = a} {b = b} (omega arith)) (or-r (Bool·beq t s) (eqb a 0) (eq→eqb z))
 

@@ -1,15 +1,14 @@
 -- Whether the whole root of big * 2 ^ 54, halved and rounded up, is q: by the squares of 2 * q - 1 and 2 * q + 1, which are odd and so no multiple of 2 ^ 54.
-use mathlib.Core.Path.{_≡_, refl, sym, ap, _∙_, subst}
+use mathlib.Core.Path.{_≡_, refl, ap}
 use mathlib.Core.Bool.{Bool, true, false, _&&_}
 use Prim.Native.Nat.{ℕ, _+_, _-_, _*_, _/_, _%_, _^_, _≤_, _<_}
-use native.Mathlib.Nat.{le-trans, mul-le-mul, mul-mul-mul-comm, mul-assoc, mul-comm, mul-left-comm, add-mul, mul-add, div-add-mod'}
+use native.Mathlib.Nat.{mul-le-mul, mul-assoc, mul-comm, mul-left-comm, add-mul, mul-add, div-add-mod'}
 use native.Mathlib.Omega.{arith}
 use lib.Dec.{T, leb, ltb, eqb, leb→le, le→leb, ltb→lt, lt→ltb, eqb→eq}
 use lib.Ieee.Fits.{and-i, and-l, and-r, eq→eqb}
 use Rattle.sqrt.specs.Sqrt.{wholeRoot}
-use Rattle.sqrt.specs.WholeRoot.{whole, root-ge, root-lt, square-odd}
-use Rattle.sqrt.specs.RootBits.{rootBits, Sized}
-use Rattle.sqrt.proofs.Units.{digits}
+use Rattle.sqrt.specs.WholeRoot.{whole, root-ge, square-odd}
+use Rattle.sqrt.specs.RootBits.{rootBits}
 
 -- ---- the square of a * k + b
 square : (a b k : ℕ) → (a * k + b) * (a * k + b) ≡ a * a * (k * k) + 2 * a * b * k + b * b
@@ -18,8 +17,13 @@ square a b k = simp (add-mul, mul-add, mul-assoc, mul-comm, mul-left-comm) (omeg
 pub high : (s : ℕ) → s / 2 ^ 27 * (s / 2 ^ 27) + (2 * (s / 2 ^ 27) * (s % 2 ^ 27) + s % 2 ^ 27 * (s % 2 ^ 27) / 2 ^ 27) / 2 ^ 27 ≡ s * s / 2 ^ 54
 high s = omega (arith, square (s / 2 ^ 27) (s % 2 ^ 27) (2 ^ 27), ap (λ (x : ℕ). x * x) (div-add-mod' s (2 ^ 27)))
 
-pub less : (a b : ℕ) → a < 2 ^ 28 → b < 2 ^ 27 → a * b < 2 ^ 55
+less : (a b : ℕ) → a < 2 ^ 28 → b < 2 ^ 27 → a * b < 2 ^ 55
 less a b h k = omega (arith, mul-le-mul {n₁ = a} {m₁ = b} {n₂ = 2 ^ 28 - 1} {m₂ = 2 ^ 27 - 1} (omega arith) (omega arith))
+
+-- the three products fit
+pub fit : (s : ℕ) → s < 2 ^ 54 → (s / 2 ^ 27 * (s / 2 ^ 27) < 2 ^ 55) × (2 * (s / 2 ^ 27) * (s % 2 ^ 27) < 2 ^ 55) × (s % 2 ^ 27 * (s % 2 ^ 27) < 2 ^ 55)
+fit s h =
+    (less (s / 2 ^ 27) (s / 2 ^ 27) (omega arith) (omega arith), less (2 * (s / 2 ^ 27)) (s % 2 ^ 27) (omega arith) (omega arith), less (s % 2 ^ 27) (s % 2 ^ 27) (omega arith) (omega arith))
 
 -- ---- an odd number is at most the root exactly if its square, without the low 54 digits, is below big
 at-most : (big s : ℕ) → s * s / 2 ^ 54 < big → s ≤ wholeRoot (big * 2 ^ 54)

@@ -1,14 +1,13 @@
 -- The root of N units by its bit pattern, from the 54-digit whole root p of a number that is 4 ^ j times smaller than N * 4 ^ 53.
 -- Twice the root of N * 4 ^ 53 then lies between p * 2 ^ (j + 1) and (p + 1) * 2 ^ (j + 1), and on the midpoint of two numbers of 53 digits only if p is odd and its square the number: an odd square is no multiple of 4.
-use mathlib.Core.Path.{_≡_, refl, sym, ap, _∙_, subst}
-use mathlib.Core.Bool.{Bool, true, false, not, cond}
-use mathlib.Core.Logic.{_⊎_, inl, inr}
+use mathlib.Core.Path.{_≡_, refl, sym, ap, _∙_}
+use mathlib.Core.Bool.{Bool, true, false, cond}
 use Prim.Native.Nat.{ℕ, zero, suc, _+_, _-_, _*_, _/_, _%_, _^_, _≤_, _<_, compare}
-use native.Mathlib.Nat.{le-trans, le-of-eq, lt-of-lt-of-le, lt-of-le-of-lt, mul-le-mul-right, mul-lt-mul-of-pos-right, mul-mul-mul-comm, mul-assoc, mul-comm, mul-right-comm, mul-pos, mul-add, add-mul, div-add-mod', div-eq-of-lt-le, mul-div-cancel}
+use native.Mathlib.Nat.{lt-of-lt-of-le, mul-le-mul-right, mul-lt-mul-of-pos-right, mul-mul-mul-comm, mul-assoc, mul-right-comm, mul-pos, add-mul, div-add-mod', div-eq-of-lt-le, mul-div-cancel}
 use native.Mathlib.Omega.{arith}
 use lib.Dec.{T, eqb, eqb→eq}
 use lib.Pow.{pow-pos, pow-add, pow-mono, shl-lt}
-use lib.Ieee.{binary64, size, nearest, units, round, ofBits, toBits}
+use lib.Ieee.{binary64, size, nearest, units, round, ofBits}
 use lib.Ieee.Fits.{round-is, round-fits}
 use lib.Ieee.Bits.{ofBits-toBits}
 use lib.Ieee.Exact.{HasValue, units-val}
@@ -16,7 +15,7 @@ use lib.Ieee.Nearest.{closest, closest-same}
 use Rattle.float_order.specs.Bits.{to-bits}
 use Rattle.float_order.specs.Digits.{compare-lt, compare-gt, size-shifted}
 use Rattle.sqrt.specs.Sqrt.{wholeRoot, rootUnits}
-use Rattle.sqrt.specs.WholeRoot.{IsRoot, whole, root-ge, root-lt, square-lt, square-odd}
+use Rattle.sqrt.specs.WholeRoot.{IsRoot, root-ge, root-lt, square-lt, square-odd}
 use Rattle.sqrt.specs.Laws.{halves, root-units}
 
 -- ---- t / (2 * u) to the nearest whole number, where p * u ≤ t < (p + 1) * u, above p * u for an odd p

@@ -1,9 +1,8 @@
--- Rows of document 01.
+-- The root of 2, a row of document 01, and the roots of the smallest and the largest float, by computing them.
 use mathlib.Core.Path.{_≡_, refl}
 use lib.Ieee.{binary64, ofBits}
 use Rattle.sqrt.specs.Sqrt.{sqrt}
 
--- the root of 2, of the smallest float and of the largest
 pub root-of-2 : sqrt (ofBits binary64 0x4000000000000000) ≡ ofBits binary64 0x3ff6a09e667f3bcd
 unfolding sqrt ofBits
 root-of-2 = refl

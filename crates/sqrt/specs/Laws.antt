@@ -1,14 +1,14 @@
 -- What a caller needs of `sqrt`: at 0 or above it is no NaN and at least 0, it keeps the order, and it is finite where its operand is.
-use mathlib.Core.Path.{_≡_, refl, sym, ap, _∙_, subst}
-use mathlib.Core.Bool.{Bool, true, false, not, cond, _&&_}
-use Prim.Native.Nat.{ℕ, zero, suc, _+_, _*_, _/_, _^_, _≤_, _<_, zero-le, _%_}
-use native.Mathlib.Nat.{le-of-eq as nat-le-of-eq, le-trans as nat-le-trans, mul-le-mul-right, mul-right-comm, mul-one, mul-pos, zero-mul, zero-div, le-of-lt, one-mul}
+use mathlib.Core.Path.{_≡_, refl, ap, _∙_}
+use mathlib.Core.Bool.{Bool, true, false, cond, _&&_}
+use Prim.Native.Nat.{ℕ, zero, suc, _+_, _*_, _/_, _^_, _≤_, zero-le, _%_}
+use native.Mathlib.Nat.{le-of-eq as nat-le-of-eq, le-trans as nat-le-trans, mul-le-mul-right, mul-right-comm, mul-pos, zero-mul, zero-div, le-of-lt, one-mul}
 use native.Mathlib.Omega.{arith}
-use lib.Dec.{T, T-not, eqb, eqb→eq, leb, ltb, ltb→lt}
-use lib.IntN.{ℤ, pos, negsuc}
+use lib.Dec.{T, eqb, eqb→eq, leb, ltb, ltb→lt}
+use lib.IntN.{pos}
 use lib.Pow.{pow-pos}
 use lib.Ieee.{Float, nan, inf, fin, binary64, up, down, round, fits, le}
-use lib.Ieee.Fits.{and-r, eq→eqb, up-pos, down-pos, round-fits, nan-fits}
+use lib.Ieee.Fits.{and-r, eq→eqb, up-pos, round-fits, nan-fits}
 use lib.Ieee.Nearest.{div-mono}
 use lib.Ieee.Order.{round-mono}
 use lib.Ieee.Scale.{finite}
@@ -21,7 +21,7 @@ use Rattle.sqrt.specs.Sqrt.{sqrt, rootUnits, wholeRoot}
 use Rattle.sqrt.specs.WholeRoot.{whole, square-lt, root-mono}
 
 -- ---- the root of N units grows with N
--- twice the root of n, and one more where the root is not whole
+-- twice the whole root of n, and one more where n is no square
 abbrev pub halves : ℕ → ℕ
 halves n = 2 * wholeRoot n + cond (eqb (wholeRoot n * wholeRoot n) n) 0 1
 
@@ -34,8 +34,10 @@ halves-mono a b h = go (eqb (s * s) a) (eqb (t * t) b) (λ (e : s * s ≡ a). eq
   where
     s : ℕ
     s = wholeRoot a
+
     t : ℕ
     t = wholeRoot b
+
     go : (x y : Bool) → (s * s ≡ a → T x) → (T y → t * t ≡ b) → 2 * s + cond x 0 1 ≤ 2 * t + cond y 0 1
     go true true f g = omega (arith, root-mono a b h)
     go true false f g = omega (arith, root-mono a b h)
@@ -71,7 +73,7 @@ level (fin false (suc m) e) p h =
     let o : T (ordered (rootUnits N)) = rw (root-units N) (round-ordered binary64 false (halves (N * 4 ^ 53)) (2 ^ 591)) in
     (le-refl (rootUnits N) o, le-refl (rootUnits N) o)
 
--- ---- the laws
+-- ---- at 0 or above the root is no NaN, and at least 0
 pub sqrt-nonneg : (x : Float) → T (le zero₊ x) → T (le zero₊ (sqrt x))
 unfolding sqrt le
 sqrt-nonneg nan p = absurd p
@@ -85,6 +87,7 @@ sqrt-nonneg (fin s m e) p =
 pub sqrt-ordered : (x : Float) → T (le zero₊ x) → T (ordered (sqrt x))
 sqrt-ordered x p = le-ordered-r zero₊ (sqrt x) (sqrt-nonneg x p)
 
+-- ---- the root keeps the order
 scaled : (a b c d k : ℕ) → a * d ≤ b * c → a * k * d ≤ b * k * c
 scaled a b c d k h = nat-le-trans (nat-le-of-eq (mul-right-comm a k d)) (nat-le-trans (mul-le-mul-right k h) (nat-le-of-eq (mul-right-comm b c k)))
 
@@ -113,10 +116,11 @@ sqrt-mono (fin s m e) (inf true) p h = absurd h
 sqrt-mono (fin s m e) (inf false) p h = le-top (sqrt (fin s m e)) (sqrt-ordered (fin s m e) p)
 sqrt-mono (fin s m e) (fin t n d) p h = finite-mono (fin s m e) (fin t n d) tt tt p (le-trans zero₊ (fin s m e) (fin t n d) p h) h
 
--- in the style of `add-at`: the range's ends are terms that compute
+-- A range's ends, as terms that compute: `in-wider (sqrt-at h (unfold floats in tt)) (unfold floats sqrt in tt)` closes a bound.
 pub sqrt-at : {a b x : Float} → In a b x → T (le zero₊ a) → In (sqrt a) (sqrt b) (sqrt x)
 sqrt-at {a} {b} {x} h p = record { low = sqrt-mono a x p (h .low); high = sqrt-mono x b (le-trans zero₊ a x p (h .low)) (h .high) }
 
+-- ---- the format holds the root of what it holds, and that is finite where the operand is
 pub sqrt-fits : (x : Float) → T (fits binary64 x) → T (fits binary64 (sqrt x))
 unfolding sqrt
 sqrt-fits nan h = h

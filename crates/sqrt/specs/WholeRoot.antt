@@ -2,7 +2,7 @@
 use mathlib.Core.Path.{_≡_}
 use mathlib.Core.Bool.{Bool, true, false, not, cond}
 use Prim.Native.Nat.{ℕ, zero, suc, _+_, _*_, _/_, _^_, _≤_, _<_}
-use native.Mathlib.Nat.{le-trans, le-antisymm, lt-of-lt-of-le, lt-of-le-of-lt, lt-irrefl, lt-of-not-le, pow-suc, pow-le-pow-left, mul-le-mul, mul-assoc, mul-left-comm, mul-add, add-mul}
+use native.Mathlib.Nat.{le-trans, lt-of-lt-of-le, lt-of-le-of-lt, lt-irrefl, lt-of-not-le, pow-suc, pow-le-pow-left, mul-le-mul, mul-assoc, mul-left-comm, mul-add, add-mul}
 use native.Mathlib.Omega.{arith}
 use lib.Dec.{T, leb, leb→le, nleb→lt}
 use lib.Ieee.{size}

@@ -7,20 +7,23 @@ ghost use lib.Ieee.{binary64};
 ghost use Rattle.sqrt.specs.Sqrt.{sqrt, rootUnits, wholeRoot};
 ghost use Rattle.sqrt.specs.RootBits.{rootBits, Sized};
 
-// A root: its bit pattern is base plus half of the whole root of big * 2^54, rounded.
+// A root, by its bit pattern: base plus half of the whole root of big * 2^54, rounded up.
 struct Root {
     big: u64,
     base: u64,
 }
 
-// The root of m * 2^e units.
+// The root of m * 2^e units of 2^-1074: m is brought to 53 digits, and the power to an even one.
 fn root_of(m: u64, e: u64) -> Root
     requires { ⌜ (0 < m) × (m < 2 ^ 53) × (e < 2046) ⌝ }
     ensures { λ r. ⌜ Sized (r .big) (r .base) × (rootUnits (m * 2 ^ e) ≡ Ieee.ofBits binary64 (rootBits (r .big) (r .base))) ⌝ }
 {
     let z = (u64::leading_zeros(m) as u64) - 11;
     let p = e + 54 - z;
-    Root { big: (m << z) << (p % 2), base: (p / 2 + 484) * 4503599627370496 }
+    Root {
+        big: (m << z) << (p % 2),
+        base: (p / 2 + 484) * 4503599627370496,
+    }
 }
 
 // The root of the float whose pattern is b: finite and above 0.
@@ -92,7 +95,7 @@ fn square_high(s: u64) -> u64
     a * a + (2 * a * b + b * b / 134217728) / 134217728
 }
 
-// Is b the pattern of the root? Half of the whole root, rounded, is q exactly if big * 2^54 lies between the squares of 2q - 1 and 2q + 1. These are odd.
+// Is b the pattern of the root? Its significand is q exactly if big * 2^54 lies between the squares of 2q - 1 and 2q + 1, which are odd and so never equal to it.
 fn has_bits(r: Root, b: u64) -> bool
     requires { ⌜ Sized (r .big) (r .base) ⌝ }
     ensures { λ t. ⌜ t ≡ eqb b (rootBits (r .big) (r .base)) ⌝ }
@@ -107,7 +110,7 @@ fn has_bits(r: Root, b: u64) -> bool
     (square_high(2 * q - 1) < r.big) & (r.big <= square_high(2 * q + 1))
 }
 
-// Rust's `d == v.sqrt()`, with no root taken.
+// Rust's `d == v.sqrt()`, by exact products: no loop, and no root taken.
 pub fn is_sqrt(d: f64, v: f64) -> bool
     ensures { λ t. ⌜ t ≡ Ieee.eq d (sqrt v) ⌝ }
 {

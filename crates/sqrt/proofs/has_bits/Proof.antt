@@ -8,9 +8,6 @@ use borrow.Author.Needs.{needs}
 use borrow.Author.Tests.{ne-eqb}
 use Rattle.sqrt.proofs.has_bits.Statement.{statement}
 use Rattle.sqrt.proofs.has_bits.Tie as tie
-use Rattle.sqrt.proofs.has_bits.Reads as reads
-use Rattle.sqrt.proofs.has_bits.Lts as lts
-use Rattle.sqrt.proofs.square_high.Reads as square-high-reads
 
 returns : tie.Need-returns
 returns c =

@@ -1,30 +1,23 @@
 -- `sqrt::is_sqrt` meets its contract: each test sends one kind of float on (`Cases.antt`), and what is left is told by its bits (`Equal.antt`).
-use mathlib.Core.Path.{_≡_, refl, sym, ap, subst, _∙_}
+use mathlib.Core.Path.{sym, ap, _∙_}
 use native.Mathlib.Omega.{arith}
-use lib.Dec.{T}
-use lib.IntN.{pos}
-use lib.Ieee.{Float, binary64, eq}
+use lib.Ieee.{binary64, eq}
 use lib.Ieee.Bits.{ofBits-toBits}
-use lib.Ieee.Compare.{differs-from-itself}
 use Rattle.sqrt.specs.Sqrt.{sqrt}
 use Rattle.sqrt.specs.RootBits.{rootBits}
-use Rattle.sqrt.proofs.Cases.{at-nan, at-zero, zero-same, at-below, at-infinity, no-nan, in-range}
+use Rattle.sqrt.proofs.Cases.{at-nan, root-of-nan, zero-same, at-below, at-infinity, no-nan, in-range}
 use Rattle.sqrt.proofs.Units.{digits}
 use Rattle.sqrt.proofs.Equal.{nan-eq, eq-nan, by-bits}
 use Rattle.float_order.specs.Order.{is-true}
 use borrow.Author.Needs.{needs}
 use Rattle.sqrt.proofs.is_sqrt.Statement.{statement}
 use Rattle.sqrt.proofs.is_sqrt.Tie as tie
-use Rattle.sqrt.proofs.is_sqrt.Reads as reads
-use Rattle.sqrt.proofs.is_sqrt.Lts as lts
-use Rattle.sqrt.proofs.has_bits.Reads as has-bits-reads
-use Rattle.sqrt.proofs.root_at.Reads as root-at-reads
 
 returns : tie.Need-returns
-returns c = rw (differs-from-itself (c .before .args .d) (is-true _ (c .if1 .taken))) (sym (nan-eq (sqrt (c .before .args .v))))
+returns c = rw (at-nan (c .before .args .d) (c .if1 .taken)) (sym (nan-eq (sqrt (c .before .args .v))))
 
 returns-2 : tie.Need-returns-2
-returns-2 c = rw (← at-nan (c .before .before .args .v) (c .if2 .taken), differs-from-itself (c .before .before .args .v) (is-true _ (c .if2 .taken))) (sym (eq-nan (c .before .before .args .d)))
+returns-2 c = rw (at-nan (c .before .before .args .v) (c .if2 .taken), root-of-nan) (sym (eq-nan (c .before .before .args .d)))
 
 returns-3 : tie.Need-returns-3
 returns-3 c = zero-same (c .before .before .before .args .d) (c .before .before .before .args .v) (c .if3 .taken)

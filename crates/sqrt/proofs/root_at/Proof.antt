@@ -1,11 +1,10 @@
 -- `sqrt::root_at` meets its contract: a pattern's fields say how many units its float has.
-use mathlib.Core.Path.{_≡_, ap, _∙_}
-use Prim.Native.Nat.{ℕ, suc, _+_, _-_, _*_, _/_, _%_, _^_}
+use mathlib.Core.Path.{_≡_}
+use Prim.Native.Nat.{suc, _+_, _-_, _*_, _/_, _%_, _^_}
 use native.Mathlib.Nat.{add-comm, mul-pos}
 use native.Mathlib.Omega.{arith}
 use lib.Pow.{pow-pos}
 use lib.Ieee.{binary64, ofBits}
-use Rattle.sqrt.specs.Sqrt.{rootUnits}
 use Rattle.float_order.specs.Bits.{low-value, high-value}
 use Rattle.sqrt.proofs.Cases.{root-at}
 use borrow.Author.Needs.{needs}

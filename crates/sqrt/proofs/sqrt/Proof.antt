@@ -1,24 +1,19 @@
 -- `sqrt::sqrt` meets its contract: each test sends one kind of float on (`Cases.antt`).
 use mathlib.Core.Path.{sym, ap, subst, _∙_}
-use Prim.Native.Nat.{_+_, _/_}
 use native.Mathlib.Omega.{arith}
 use lib.Dec.{T}
 use lib.Ieee.{binary64}
 use lib.Ieee.Bits.{ofBits-toBits}
 use Rattle.sqrt.specs.Sqrt.{sqrt}
-use Rattle.sqrt.proofs.Cases.{at-nan, at-zero, at-below, zero-by-zero, at-infinity, no-nan, in-range}
+use Rattle.sqrt.proofs.Cases.{at-nan, root-of-nan, at-zero, at-below, zero-by-zero, at-infinity, no-nan, in-range}
 use Rattle.sqrt.proofs.Units.{digits}
 use Rattle.float_order.specs.Bits.{no-nan-bits}
 use borrow.Author.Needs.{needs}
 use Rattle.sqrt.proofs.sqrt.Statement.{statement}
 use Rattle.sqrt.proofs.sqrt.Tie as tie
-use Rattle.sqrt.proofs.sqrt.Reads as reads
-use Rattle.sqrt.proofs.sqrt.Lts as lts
-use Rattle.sqrt.proofs.root54.Reads as root54-reads
-use Rattle.sqrt.proofs.root_at.Reads as root-at-reads
 
 returns : tie.Need-returns
-returns c = at-nan (c .before .args .x) (c .if1 .taken)
+returns c = rw (at-nan (c .before .args .x) (c .if1 .taken)) (sym root-of-nan)
 
 returns-2 : tie.Need-returns-2
 returns-2 c = at-zero (c .before .before .args .x) (c .if2 .taken)
@@ -46,7 +41,7 @@ float-from-bits-result : tie.Need-float-from-bits-result
 float-from-bits-result c =
     let r = c .before .before .root-at .result in
     let s = c .before .before .root-at .ensures .0 in
-    no-nan-bits (r .base + (c .before .root54 .result + 1) / 2) (omega (arith, c .before .root54 .ensures, s .small, digits (r .big) (r .base) s .1))
+    no-nan-bits _ (omega (arith, c .before .root54 .ensures, s .small, digits (r .big) (r .base) s .1))
 
 returns-5 : tie.Need-returns-5
 returns-5 c =
