@@ -1,5 +1,5 @@
--- The root of N units by its bit pattern, from the 54-digit whole root p of a number that is 4 ^ j times smaller than N * 4 ^ 53.
--- Twice the root of N * 4 ^ 53 then lies between p * 2 ^ (j + 1) and (p + 1) * 2 ^ (j + 1), and on the midpoint of two numbers of 53 digits only if p is odd and its square the number: an odd square is no multiple of 4.
+-- The root of N units by its bit pattern, from the whole root p, of 54 digits, of a number m that is 4 ^ j times smaller than N * 4 ^ 53.
+-- Twice the root of N * 4 ^ 53 is at least p * 2 ^ (j + 1) and below (p + 1) * 2 ^ (j + 1). It is midway between two numbers of 53 digits only if p is odd and p * p is m, a multiple of 4: never.
 use mathlib.Core.Path.{_≡_, refl, sym, ap, _∙_}
 use mathlib.Core.Bool.{Bool, true, false, cond}
 use Prim.Native.Nat.{ℕ, zero, suc, _+_, _-_, _*_, _/_, _%_, _^_, _≤_, _<_, compare}

@@ -14,7 +14,7 @@ unfoldable pub wholeRoot : ℕ → ℕ
 unfolding rootBy size
 wholeRoot n = rootBy (size n) n
 
--- The root of N of the format's smallest values, 2 ^ -1074 each, is √n * 2 ^ -590 for n = N * 4 ^ 53. The whole part s of √n has at least 54 digits,
+-- The root of N of the format's smallest values, 2 ^ -1074 each, is √n * 2 ^ -590 for n = N * 4 ^ 53. The whole part s of √n has at least 54 binary digits,
 -- so no number of 53 digits, nor a midpoint of two, lies strictly between s and s + 1: where √n is not s itself, s + 1/2 rounds as √n does.
 unfoldable pub rootUnits : ℕ → Float
 unfolding wholeRoot round
