@@ -11,10 +11,10 @@ unfoldable pub max : Float → Float → Float
 max a b = cond (isNan a) b (cond (lt a b) b a)
 
 -- as Rust has it: up to lo where it is below, and then down to hi where it is above
-abbrev raised : Float → Float → Float
+abbrev pub raised : Float → Float → Float
 raised x lo = cond (lt x lo) lo x
 
-abbrev lowered : Float → Float → Float
+abbrev pub lowered : Float → Float → Float
 lowered x hi = cond (lt hi x) hi x
 
 unfoldable pub clamp : Float → Float → Float → Float

@@ -1,1 +1,2 @@
 pub mod Float
+pub mod MinMax
