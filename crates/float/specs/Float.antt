@@ -1,7 +1,8 @@
--- Document 01's minimum, maximum, clamp, magnitude and ceiling, as Rust's `f64` has them, for every input.
+-- Rust's `f64::min`, `max`, `clamp`, `abs` and `ceil`, for every input.
 use Prim.Native.Nat.{_+_, _-_, _*_, _/_}
-use mathlib.Core.Bool.{true, false, cond}
+use mathlib.Core.Bool.{Bool, true, false, cond}
 use lib.Ieee.{Float, nan, inf, fin, binary64, up, down, isNan, lt, round}
+use Rattle.float_order.specs.Interval.{floats}
 
 -- the other operand where one is a NaN; of two equal numbers the first, so of two zeros of unlike sign too
 unfoldable pub min : Float → Float → Float
@@ -33,3 +34,8 @@ ceil nan = nan
 ceil (inf s) = inf s
 ceil (fin true m e) = round binary64 true (m * up e / down e) 1
 ceil (fin false m e) = round binary64 false ((m * up e + (down e - 1)) / down e) 1
+
+-- `unfold helpers in tt` opens these and the operations of `floats` at once, for a test that holds no variable
+unfoldable pub helpers : Bool
+unfolding floats min max clamp abs ceil
+helpers = true

@@ -1,12 +1,11 @@
 -- Laws of `min`, `max`, `clamp` and `abs`: bounds, order and ranges.
-use mathlib.Core.Path.{_≡_, refl, sym, ap, _∙_, subst}
-use mathlib.Core.Logic.{_⊎_, inl, inr}
+use mathlib.Core.Path.{_≡_, refl, ap, _∙_, subst}
+use mathlib.Core.Logic.{inl, inr}
 use mathlib.Core.Bool.{Bool, true, false, not, _&&_, _||_, cond}
-use Prim.Native.Nat.{_+_, _*_}
+use Prim.Native.Nat.{zero, suc}
 use native.Mathlib.Omega.{arith}
-use lib.IntN.{ℤ, pos, negsuc}
 use lib.Dec.{T}
-use lib.Ieee.{Float, nan, inf, fin, isNan, lt, le, neg}
+use lib.Ieee.{Float, nan, inf, fin, Format, isNan, fits, lt, le, neg}
 use lib.Ieee.Fits.{and-l, and-r}
 use Rattle.float_order.specs.Order.{ordered, or-split, no-nan-ordered, ordered-neg, le-refl, le-trans, le-ordered-l, le-ordered-r, cross→le, lt→le, not-lt→le, lt→not-le, neg-le, neg-neg}
 use Rattle.float_order.specs.Ops.{zero₊, nonneg-of}
@@ -175,6 +174,13 @@ unfolding abs neg
 abs-neg nan = refl
 abs-neg (inf s) = refl
 abs-neg (fin s m e) = refl
+
+pub abs-fits : (f : Format) (x : Float) → T (fits f x) → T (fits f (abs x))
+unfolding abs fits
+abs-fits f nan h = h
+abs-fits f (inf s) h = h
+abs-fits f (fin s zero e) h = h
+abs-fits f (fin s (suc m) e) h = h
 
 pub abs-nonneg : (x : Float) → T (ordered x) → T (le zero₊ (abs x))
 unfolding abs
