@@ -1,4 +1,4 @@
--- The arms of `ceil`: from 2 ^ 52 on every value is whole, and below it the whole part is a u64 that a cast gives exactly. Assumes nothing.
+-- The arms of `ceil`: from 2 ^ 52 on every value is whole, and below it the whole part is a u64 that a cast gives exactly.
 use mathlib.Core.Path.{_≡_, refl, sym, ap, _∙_}
 use mathlib.Core.Bool.{Bool, true, false, not}
 use Prim.Native.Nat.{ℕ, suc, _+_, _-_, _*_, _/_, _%_, _^_, _≤_, _<_}
@@ -15,8 +15,8 @@ use Rattle.float_order.specs.Ops.{zero₊, nonneg-of, nonneg-under, nonpos-over
 use Rattle.float_order.specs.Range.{In, nat, neg-in}
 use Rattle.float_order.specs.Casts.{ofInt-whole, toUnsigned-le}
 use Rattle.float_order.specs.Interval.{floats}
-use Rattle.float.specs.Float.{ceil}
-use Rattle.float.specs.Ceil.{isWhole, upward, ceil-is, ceil-whole, upward-whole, significand}
+use Rattle.float.specs.Float.{upward, ceil}
+use Rattle.float.specs.Ceil.{isWhole, ceil-whole, upward-whole, significand}
 
 abbrev zero64 : Float
 zero64 = ofBits binary64 0
@@ -114,20 +114,20 @@ of-int n = refl
 
 pub over-zero : (x : Float) → lt zero64 x ≡ true → toUnsigned 64 x ≤ 2 ^ 52 → (t : ℕ) → t ≡ toUnsigned 64 x
     → (lt (ofInt binary64 (pos t)) x ≡ true → ofInt binary64 (pos (t + 1)) ≡ ceil x) × (lt (ofInt binary64 (pos t)) x ≡ false → ofInt binary64 (pos t) ≡ ceil x)
-unfolding ofBits lt toUnsigned
+unfolding ofBits lt toUnsigned ceil
 over-zero nan p l t i = absurd (is-true false p)
 over-zero (inf true) p l t i = absurd (is-true false p)
 over-zero (inf false) p l t i = absurd (omega arith)
 over-zero (fin true m e) p l t i = absurd (is-true false p)
 over-zero (fin false m e) p l t i = (
-  λ h. of-int (t + 1) ∙ ap (λ (n : ℕ). round binary64 false n 1) (some m e t i l h) ∙ sym (ceil-is false m e),
-  λ h. of-int t ∙ ap (λ (n : ℕ). round binary64 false n 1) (none m e t i l h) ∙ sym (ceil-is false m e),
+  λ h. of-int (t + 1) ∙ ap (λ (n : ℕ). round binary64 false n 1) (some m e t i l h),
+  λ h. of-int t ∙ ap (λ (n : ℕ). round binary64 false n 1) (none m e t i l h),
 )
 
 pub under-zero : (x : Float) → lt x zero64 ≡ true → toUnsigned 64 (neg x) ≤ 2 ^ 52 → (t : ℕ) → t ≡ toUnsigned 64 (neg x) → neg (ofInt binary64 (pos t)) ≡ ceil x
-unfolding ofBits lt neg toUnsigned
+unfolding ofBits lt neg toUnsigned ceil
 under-zero nan p l t i = absurd (is-true false p)
 under-zero (inf true) p l t i = absurd (omega arith)
 under-zero (inf false) p l t i = absurd (is-true false p)
 under-zero (fin false m e) p l t i = absurd (lt→not-le (fin false m e) zero₊ (is-true _ p) (nonneg-of (fin false m e) tt refl))
-under-zero (fin true m e) p l t i = ap neg (of-int t) ∙ neg-round binary64 t 1 ∙ ap (λ (n : ℕ). round binary64 true n 1) (part m e t i l) ∙ sym (ceil-is true m e)
+under-zero (fin true m e) p l t i = ap neg (of-int t) ∙ neg-round binary64 t 1 ∙ ap (λ (n : ℕ). round binary64 true n 1) (part m e t i l)

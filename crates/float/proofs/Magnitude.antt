@@ -1,4 +1,4 @@
--- The three arms of `abs`: at a zero, below it, and at the others. Assumes nothing.
+-- The three arms of `abs`: at a zero, below it, and at the others.
 use mathlib.Core.Path.{_≡_, refl, sym}
 use mathlib.Core.Bool.{true, false}
 use Prim.Native.Nat.{_*_}

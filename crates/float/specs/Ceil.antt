@@ -1,22 +1,22 @@
 -- The ceiling of a value that `f64` holds is the least whole number that is not below it. And `ceil` keeps the order, of any values.
 use mathlib.Core.Path.{_≡_, refl, sym, ap, _∙_}
-use mathlib.Core.Bool.{Bool, true, false, _&&_, true≢false}
+use mathlib.Core.Bool.{Bool, true, false, _&&_}
 use Prim.Native.Nat.{ℕ, zero, suc, _+_, _-_, _*_, _/_, _%_, _^_, _≤_, _<_}
 use native.Mathlib.Nat.{le-trans as nat-le-trans, add-zero, mul-one, add-mul, div-one, div-le-self, div-mul-le-self, div-add-mod', div-eq-of-lt-le, div-lt-iff-lt-mul, le-div-iff-mul-le, lt-div-mul-add, le-of-mul-le-mul-right, le-mul-of-pos-right, mul-mod-left}
 use native.Mathlib.Omega.{arith}
 use lib.IntN.{ℤ, pos, negsuc}
 use lib.Dec.{T, leb, ltb, eqb, eqb→eq, ltb→lt}
 use lib.Pow.{pow-pos}
-use lib.Ieee.{Float, nan, inf, fin, binary64, up, down, le, round, fits}
+use lib.Ieee.{Float, nan, inf, fin, binary64, up, down, le, fits}
 use lib.Ieee.Fits.{and-l, and-r, eq→eqb, down-pos, nan-fits, inf-fits, round-fits}
 use lib.Ieee.Exact.{HasValue}
 use lib.Ieee.Back.{round-whole, whole-unique}
 use lib.Ieee.Scale.{finite}
-use Rattle.float_order.specs.Order.{gain, loss, ordered, le→cross, cross→le, le-trans, le-ordered-r, bottom-le, le-top}
+use Rattle.float_order.specs.Order.{gain, loss, gain-mul, loss-mul, ordered, le→cross, cross→le, le-trans, le-ordered-r, bottom-le, le-top}
 use Rattle.float_order.specs.Round.{round-mono-signed, round-ordered}
 use Rattle.float_order.specs.Range.{In}
 use Rattle.float_order.specs.Exact.{self-round}
-use Rattle.float.specs.Float.{ceil}
+use Rattle.float.specs.Float.{upward, ceil}
 
 -- a finite value with no fraction
 abbrev pub isWhole : Float → Bool
@@ -24,22 +24,13 @@ isWhole nan = false
 isWhole (inf s) = false
 isWhole (fin s m e) = eqb (m * up e % down e) 0
 
--- ---- the ceiling of ±n / d: it has the same sign, and this size
-abbrev pub upward : Bool → ℕ → ℕ → ℕ
-upward true n d = n / d
-upward false n d = (n + (d - 1)) / d
-
-pub ceil-is : (s : Bool) (m : ℕ) (e : ℤ) → ceil (fin s m e) ≡ round binary64 s (upward s (m * up e) (down e)) 1
-unfolding ceil
-ceil-is true m e = refl
-ceil-is false m e = refl
-
--- not below it
+-- ---- the ceiling of a fraction: a sign and n / d
+-- it is not below it
 upward-above : (s : Bool) (n d : ℕ) → 0 < d → gain s n + loss s (upward s n d) * d ≤ gain s (upward s n d) * d + loss s n
 upward-above false n d D = omega (arith, lt-div-mul-add {a = n + (d - 1)} D)
 upward-above true n d D = omega (arith, div-mul-le-self n d)
 
--- and ±q is no less, where it is not below it
+-- and at most every whole number, a sign t and q, that is not below it
 upward-least : (s : Bool) (n d : ℕ) (t : Bool) (q : ℕ) → 0 < d → gain s n + loss t q * d ≤ gain t q * d + loss s n → gain s (upward s n d) + loss t q ≤ gain t q + loss s (upward s n d)
 upward-least false n d false q D h = let k : (n + (d - 1)) / d < q + 1 = div-lt-iff-lt-mul D .1 (omega (arith, add-mul q 1 d)) in omega arith
 upward-least false n d true q D h =
@@ -69,15 +60,14 @@ pub ceil-ordered : (x : Float) → T (ordered x) → T (ordered (ceil x))
 unfolding ceil
 ceil-ordered nan p = p
 ceil-ordered (inf s) p = tt
-ceil-ordered (fin true m e) p = round-ordered binary64 true (m * up e / down e) 1
-ceil-ordered (fin false m e) p = round-ordered binary64 false ((m * up e + (down e - 1)) / down e) 1
+ceil-ordered (fin s m e) p = round-ordered binary64 s (upward s (m * up e) (down e)) 1
 
 fin-mono : (s : Bool) (m : ℕ) (e : ℤ) (t : Bool) (n : ℕ) (d : ℤ) → T (le (fin s m e) (fin t n d)) → T (le (ceil (fin s m e)) (ceil (fin t n d)))
+unfolding ceil
 fin-mono s m e t n d h =
     let p = upward s (m * up e) (down e) in
     let q = upward t (n * up d) (down d) in
-    rw (ceil-is s m e, ceil-is t n d)
-    (round-mono-signed binary64 s p 1 t q 1 (pow-pos 0) (pow-pos 0) (omega (arith, least-up s m e t q (le-trans (fin s m e) (fin t n d) (whole t q) h (whole-up t n d)))))
+    round-mono-signed binary64 s p 1 t q 1 (pow-pos 0) (pow-pos 0) (omega (arith, least-up s m e t q (le-trans (fin s m e) (fin t n d) (whole t q) h (whole-up t n d))))
 
 pub ceil-mono : (x y : Float) → T (le x y) → T (le (ceil x) (ceil y))
 unfolding le ceil
@@ -95,6 +85,7 @@ pub ceil-at : {a b x : Float} → In a b x → In (ceil a) (ceil b) (ceil x)
 ceil-at {a} {b} {x} h = record { low = ceil-mono a x (h .low); high = ceil-mono x b (h .high) }
 
 -- ---- of a value that the format holds it is exact
+-- a significand has 53 digits
 pub significand : (s : Bool) (m : ℕ) (e : ℤ) → T (fits binary64 (fin s m e)) → m < 2 ^ 53
 unfolding fits
 significand s zero e h = pow-pos 53
@@ -114,17 +105,16 @@ upward-one true n = div-one n
 upward-one false n = div-one (n + 0) ∙ add-zero n
 
 ceil-value : (s : Bool) (m : ℕ) (e : ℤ) → T (fits binary64 (fin s m e)) → HasValue (ceil (fin s m e)) s (upward s (m * up e) (down e)) 1
-ceil-value s m (pos k) h = rw (ceil-is s m (pos k), upward-one s (m * 2 ^ k), self-round binary64 s m (pos k) h) (refl, refl)
+unfolding ceil
+ceil-value s m (pos k) h = rw (upward-one s (m * 2 ^ k), self-round binary64 s m (pos k) h) (refl, refl)
 ceil-value s m (negsuc k) h =
-    rw (ceil-is s m (negsuc k))
-    (round-whole binary64 s (upward s (m * 1) (2 ^ suc k)) (nat-le-trans (upward-le s (m * 1) (2 ^ suc k) (pow-pos (suc k))) (omega (arith, significand s m (negsuc k) h))))
+    round-whole binary64 s (upward s (m * 1) (2 ^ suc k)) (nat-le-trans (upward-le s (m * 1) (2 ^ suc k) (pow-pos (suc k))) (omega (arith, significand s m (negsuc k) h)))
 
 pub ceil-fits : (x : Float) → T (fits binary64 (ceil x))
 unfolding ceil
 ceil-fits nan = nan-fits binary64
 ceil-fits (inf s) = inf-fits binary64 s
-ceil-fits (fin true m e) = round-fits binary64 true (m * up e / down e) 1
-ceil-fits (fin false m e) = round-fits binary64 false ((m * up e + (down e - 1)) / down e) 1
+ceil-fits (fin s m e) = round-fits binary64 s (upward s (m * up e) (down e)) 1
 
 -- a whole number stays
 pub ceil-whole : (x : Float) → T (fits binary64 x) → T (isWhole x) → ceil x ≡ x
@@ -144,14 +134,18 @@ value-whole (fin t m e) s q v = eq→eqb (ap (λ (z : ℕ). z % down e) (sym (mu
 value-in : (x : Float) (s : Bool) (q : ℕ) → HasValue x s q 1 → In (whole s q) (whole s q) x
 value-in nan s q v = absurd v
 value-in (inf t) s q v = absurd v
-value-in (fin true m e) false q v = absurd (true≢false (v .0))
-value-in (fin false m e) true q v = absurd (true≢false (sym (v .0)))
-value-in (fin true m e) true q v = record { low = cross→le (whole true q) (fin true m e) tt tt (rw (mul-one q) (omega (arith, v .1))); high = cross→le (fin true m e) (whole true q) tt tt (rw (mul-one q) (omega (arith, v .1))) }
-value-in (fin false m e) false q v = record { low = cross→le (whole false q) (fin false m e) tt tt (rw (mul-one q) (omega (arith, v .1))); high = cross→le (fin false m e) (whole false q) tt tt (rw (mul-one q) (omega (arith, v .1))) }
+value-in (fin t m e) s q v =
+    let n : m * up e ≡ q * down e = sym (mul-one (m * up e)) ∙ v .1 in
+    rw (v .0)
+    (record {
+      low = cross→le (whole s q) (fin s m e) tt tt (rw (n, mul-one q, ← gain-mul s q (down e), ← loss-mul s q (down e)) (omega arith));
+      high = cross→le (fin s m e) (whole s q) tt tt (rw (n, mul-one q, ← gain-mul s q (down e), ← loss-mul s q (down e)) (omega arith));
+    })
 
 whole-value : (s : Bool) (m : ℕ) (e : ℤ) → T (isWhole (fin s m e)) → HasValue (fin s m e) s (m * up e / down e) 1
 whole-value s m e w = (refl, omega (arith, div-add-mod' (m * up e) (down e), eqb→eq (m * up e % down e) 0 w))
 
+-- c is the least whole number that is not below x
 pub record Ceiling (x c : Float) : Type 0 where
   pub whole : T (isWhole c)
   pub above : T (le x c)

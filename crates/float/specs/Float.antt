@@ -1,5 +1,5 @@
 -- Rust's `f64::min`, `max`, `clamp`, `abs` and `ceil`, for every input.
-use Prim.Native.Nat.{_+_, _-_, _*_, _/_}
+use Prim.Native.Nat.{ℕ, _+_, _-_, _*_, _/_}
 use mathlib.Core.Bool.{Bool, true, false, cond}
 use lib.Ieee.{Float, nan, inf, fin, binary64, up, down, isNan, lt, round}
 use Rattle.float_order.specs.Interval.{floats}
@@ -27,13 +27,17 @@ abs nan = nan
 abs (inf s) = inf false
 abs (fin s m e) = fin false m e
 
--- The least whole number at or above the value. Below zero that is the magnitude without its fraction, and a zero there is -0.
+-- the size of the least whole number at or above n / d, or -n / d where the sign is true
+abbrev pub upward : Bool → ℕ → ℕ → ℕ
+upward true n d = n / d
+upward false n d = (n + (d - 1)) / d
+
+-- It keeps the sign, so from -1 to 0 it is -0.
 unfoldable pub ceil : Float → Float
 unfolding round
 ceil nan = nan
 ceil (inf s) = inf s
-ceil (fin true m e) = round binary64 true (m * up e / down e) 1
-ceil (fin false m e) = round binary64 false ((m * up e + (down e - 1)) / down e) 1
+ceil (fin s m e) = round binary64 s (upward s (m * up e) (down e)) 1
 
 -- `unfold helpers in tt` opens these and the operations of `floats` at once, for a test that holds no variable
 unfoldable pub helpers : Bool

@@ -4,10 +4,10 @@ use mathlib.Core.Logic.{inl, inr}
 use mathlib.Core.Bool.{Bool, true, false, not, _&&_, _||_, cond}
 use Prim.Native.Nat.{zero, suc}
 use native.Mathlib.Omega.{arith}
-use lib.Dec.{T}
+use lib.Dec.{T, T-not}
 use lib.Ieee.{Float, nan, inf, fin, Format, isNan, fits, lt, le, neg}
 use lib.Ieee.Fits.{and-l, and-r}
-use Rattle.float_order.specs.Order.{ordered, or-split, no-nan-ordered, ordered-neg, le-refl, le-trans, le-ordered-l, le-ordered-r, cross→le, lt→le, not-lt→le, lt→not-le, neg-le, neg-neg}
+use Rattle.float_order.specs.Order.{ordered, or-split, ordered-no-nan, no-nan-ordered, ordered-neg, le-refl, le-trans, le-ordered-l, le-ordered-r, cross→le, lt→le, not-lt→le, lt→not-le, neg-le, neg-neg}
 use Rattle.float_order.specs.Ops.{zero₊, nonneg-of}
 use Rattle.float_order.specs.Range.{In, Within}
 use Rattle.float_order.specs.Interval.{cond-either}
@@ -27,17 +27,11 @@ cond-case : (P : Float → Type 0) (b : Bool) (x y : Float) → (T b → P x) �
 cond-case P true x y f g = f tt
 cond-case P false x y f g = g tt
 
-nan-not-ordered : (x : Float) → T (isNan x) → T (ordered x) → ⊥
-unfolding isNan
-nan-not-ordered nan t o = o
-nan-not-ordered (inf s) t o = t
-nan-not-ordered (fin s m e) t o = t
-
 -- ---- `min` is at most each operand that is no NaN, and `max` at least
 pub min-le-l : (x y : Float) → T (ordered x) → T (le (min x y) x)
 unfolding min
 min-le-l x y p =
-    cond-case (λ (z : Float). T (le z x)) (isNan x) y (cond (lt y x) y x) (λ t. absurd (nan-not-ordered x t p))
+    cond-case (λ (z : Float). T (le z x)) (isNan x) y (cond (lt y x) y x) (λ t. absurd (T-not (isNan x) (ordered-no-nan x p) t))
     (λ t. cond-case (λ (z : Float). T (le z x)) (lt y x) y x (lt→le y x) (λ h. le-refl x p))
 
 pub min-le-r : (x y : Float) → T (ordered y) → T (le (min x y) y)
@@ -49,7 +43,7 @@ min-le-r x y q =
 pub le-max-l : (x y : Float) → T (ordered x) → T (le x (max x y))
 unfolding max
 le-max-l x y p =
-    cond-case (λ (z : Float). T (le x z)) (isNan x) y (cond (lt x y) y x) (λ t. absurd (nan-not-ordered x t p))
+    cond-case (λ (z : Float). T (le x z)) (isNan x) y (cond (lt x y) y x) (λ t. absurd (T-not (isNan x) (ordered-no-nan x p) t))
     (λ t. cond-case (λ (z : Float). T (le x z)) (lt x y) y x (lt→le x y) (λ h. le-refl x p))
 
 pub le-max-r : (x y : Float) → T (ordered y) → T (le y (max x y))
@@ -58,7 +52,7 @@ le-max-r x y q =
     cond-case (λ (z : Float). T (le y z)) (isNan x) y (cond (lt x y) y x) (λ t. le-refl y q)
     (λ t. cond-case (λ (z : Float). T (le y z)) (lt x y) y x (λ h. le-refl y q) (not-lt→le x y (no-nan-ordered x t) q))
 
--- ---- and what is at most both is at most their `min`
+-- ---- what is at most both is at most their `min`, and what is at least both at least their `max`
 pub le-min : (z x y : Float) → T (le z x) → T (le z y) → T (le z (min x y))
 le-min z x y h k = min-either (λ (w : Float). T (le z w)) x y h k
 

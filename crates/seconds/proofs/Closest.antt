@@ -1,4 +1,4 @@
--- A quotient rounded to the nearest whole number, as the code works it out: of two limbs, and with the whole seconds apart. Assumes nothing.
+-- A quotient rounded to the nearest whole number, as the code works it out: of two limbs, and with the whole seconds apart.
 use mathlib.Core.Path.{_≡_, refl, sym, ap, _∙_}
 use Prim.Native.Nat.{ℕ, zero, suc, _+_, _-_, _*_, _/_, _%_, _^_, _≤_, _<_, compare, Ordering, Ordering·lt, Ordering·eq, Ordering·gt}
 use native.Mathlib.Nat.{add-comm, mul-assoc, mul-right-comm, one-mul, mul-pos, mul-mul-mul-comm, lt-of-lt-of-le, mod-lt, mod-eq-of-lt, add-mul-div-right, add-mul-mod-self-right, div-add-mod', pow-suc}
@@ -49,7 +49,7 @@ pub record Divisor (d : ℕ) : Type 0 where
   pub most : d ≤ 2 ^ 62
   pub even : d % 2 ≡ 0
 
-pub shifted : (j : ℕ) → j < 64 → 1 * 2 ^ j % 2 ^ 64 ≡ 2 ^ j
+shifted : (j : ℕ) → j < 64 → 1 * 2 ^ j % 2 ^ 64 ≡ 2 ^ j
 shifted j h = ap (λ (x : ℕ). x % 2 ^ 64) (one-mul (2 ^ j)) ∙ mod-eq-of-lt {n = 2 ^ j} {m = 2 ^ 64} (omega (arith, pow-mono {i = j} {j = 63} (omega arith)))
 
 pub divisor : (j : ℕ) → 0 < j → j ≤ 62 → Divisor (1 * 2 ^ j % 2 ^ 64)

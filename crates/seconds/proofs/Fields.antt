@@ -1,4 +1,4 @@
--- Seconds as whole ns by the bits: from 2 ^ -32 s to below 2 ^ 64 ns a value is 53 digits over a power of two, as its fields have them. Assumes nothing.
+-- Seconds as whole ns by the bits: from 2 ^ -32 s to below 2 ^ 64 ns a value is 53 digits over a power of two, as its fields have them.
 use mathlib.Core.Path.{_≡_, refl, sym, ap, _∙_, subst}
 use mathlib.Core.Logic.{inl, inr}
 use mathlib.Core.Bool.{true, false, true≢false}
@@ -18,12 +18,16 @@ use Rattle.float_order.specs.Order.{ordered, le-ordered-r, le-left→le, is-tru
 use Rattle.float_order.specs.Bits.{low-value, high-value, finite-bound}
 use Rattle.float_order.specs.Interval.{floats}
 use Rattle.seconds.specs.Seconds.{fromSecsF64}
-use Rattle.seconds.specs.Laws.{from-most, from-mono}
+use Rattle.seconds.specs.Laws.{ns-most, ns-mono}
 
--- the least float from which the ns are more than a u64 holds, and 2 ^ -32
+-- the least value of 2 ^ 64 ns or more, which is limit / 2 ^ 18
 abbrev top : Float
 top = ofBits binary64 0x4211_2e0b_e826_d695
 
+abbrev limit : ℕ
+limit = 4835703278458517
+
+-- 2 ^ -32
 abbrev tiny : Float
 tiny = ofBits binary64 0x3df0_0000_0000_0000
 
@@ -37,10 +41,10 @@ unfolding fromSecsF64 floats
 empty = refl
 
 pub too-many : (x : Float) → le top x ≡ true → 2 ^ 64 - 1 ≡ fromSecsF64 x
-too-many x h = omega (arith, full, from-mono top x (is-true _ h), from-most x)
+too-many x h = omega (arith, full, ns-mono top x (is-true _ h), ns-most x)
 
 none-of : (x : Float) → T (ordered x) → le tiny x ≡ false → 0 ≡ fromSecsF64 x
-none-of x p h = omega (arith, empty, from-mono x tiny (le-left→le tiny x (unfold floats in tt) p h))
+none-of x p h = omega (arith, empty, ns-mono x tiny (le-left→le tiny x (unfold floats in tt) p h))
 
 pub none : (x : Float) → le tiny x ≡ false → 0 ≡ fromSecsF64 x
 unfolding fromSecsF64
@@ -86,20 +90,20 @@ module _ (x : Float) (low : le tiny x ≡ true) (high : le top x ≡ false) (a c
   above : 1 * c ≤ a * 2 ^ 32
   above = values-of-le tiny x 1 (2 ^ 32) a c (unfold floats in tt) (above-zero x low high) (unfold floats in (refl, refl)) v (is-true _ low)
 
-  below : a * 2 ^ 18 < 4835703278458517 * c
-  below = lt-of-not-le (λ (g : 4835703278458517 * c ≤ a * 2 ^ 18). T-not (le top x) (is-false _ high) (le-of-values top x 4835703278458517 (2 ^ 18) a c (pow-pos 18) C (unfold floats in (refl, refl)) v g))
+  below : a * 2 ^ 18 < limit * c
+  below = lt-of-not-le (λ (g : limit * c ≤ a * 2 ^ 18). T-not (le top x) (is-false _ high) (le-of-values top x limit (2 ^ 18) a c (pow-pos 18) C (unfold floats in (refl, refl)) v g))
 
 -- the ns of s / 2 ^ k are a u64's
-holds : (s k : ℕ) → s < 2 ^ 53 → 18 ≤ k → s * 2 ^ 18 < 4835703278458517 * 2 ^ k → closest (s * 10 ^ 9) (2 ^ k) < 2 ^ 64
+holds : (s k : ℕ) → s < 2 ^ 53 → 18 ≤ k → s * 2 ^ 18 < limit * 2 ^ k → closest (s * 10 ^ 9) (2 ^ k) < 2 ^ 64
 holds s k h l b = elim (eq-or-lt-of-le l) [
-  | inl e ↦ subst (λ (z : ℕ). closest (s * 10 ^ 9) (2 ^ z) < 2 ^ 64) e (at-most s (lt-of-mul-lt-mul-right (2 ^ 18) (subst (λ (z : ℕ). s * 2 ^ 18 < 4835703278458517 * 2 ^ z) (sym e) b)))
+  | inl e ↦ subst (λ (z : ℕ). closest (s * 10 ^ 9) (2 ^ z) < 2 ^ 64) e (at-most s (lt-of-mul-lt-mul-right (2 ^ 18) (subst (λ (z : ℕ). s * 2 ^ 18 < limit * 2 ^ z) (sym e) b)))
   | inr g ↦ lt-of-le-of-lt (closest-mono (s * 10 ^ 9) (2 ^ k) (2 ^ 53 * 10 ^ 9) (2 ^ 19) (pow-pos k) (pow-pos 19) (mul-le-mul (mul-le-mul-right (10 ^ 9) (le-of-lt h)) (pow-mono g))) (lit< tt)
 ]
   where
-    at-most : (s : ℕ) → s < 4835703278458517 → closest (s * 10 ^ 9) (2 ^ 18) < 2 ^ 64
-    at-most s h = lt-of-le-of-lt (closest-mono (s * 10 ^ 9) (2 ^ 18) (4835703278458516 * 10 ^ 9) (2 ^ 18) (pow-pos 18) (pow-pos 18) (omega arith)) (lit< tt)
+    at-most : (s : ℕ) → s < limit → closest (s * 10 ^ 9) (2 ^ 18) < 2 ^ 64
+    at-most s h = lt-of-le-of-lt (closest-mono (s * 10 ^ 9) (2 ^ 18) ((limit - 1) * 10 ^ 9) (2 ^ 18) (pow-pos 18) (pow-pos 18) (omega arith)) (lit< tt)
 
-places : (s j : ℕ) → 2 ^ 52 ≤ s → s * 2 ^ j * 2 ^ 18 < 4835703278458517 * 2 ^ 1074 → j ≤ 1056
+places : (s j : ℕ) → 2 ^ 52 ≤ s → s * 2 ^ j * 2 ^ 18 < limit * 2 ^ 1074 → j ≤ 1056
 places s j h b =
     let p : 2 ^ (52 + j + 18) < 2 ^ (53 + 1074) =
     lt-of-le-of-lt (nat-le-trans (le-of-eq (pow-add 2 (52 + j) 18 ∙ ap (λ (z : ℕ). z * 2 ^ 18) (pow-add 2 52 j))) (mul-le-mul-right (2 ^ 18) (mul-le-mul-right (2 ^ j) h)))
