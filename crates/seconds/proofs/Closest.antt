@@ -34,7 +34,7 @@ module _ (a b d : ℕ) (hb : b < 8192) (hd : 0 < d) (even : d % 2 ≡ 0) where
   pub at-past : d ≤ 2 * (a % d) → 2 * (a % d) ≤ d → ¬ (b ≡ 0) → a / d + 1 ≡ closest (a * 8192 + b) (d * 8192)
   at-past h k z = sym (is ∙ ap (nearest (a / d)) (compare-gt ((a % d * 8192 + b) * 2) (d * 8192) (omega arith)) ∙ omega arith)
 
--- ---- an even number of wholes, apart
+-- ---- an even number taken apart before rounding
 nearest-add : (a q : ℕ) (o : Ordering) → a % 2 ≡ 0 → nearest (a + q) o ≡ a + nearest q o
 nearest-add a q Ordering·lt h = refl
 nearest-add a q Ordering·eq h = omega arith
@@ -56,7 +56,7 @@ pub divisor : (j : ℕ) → 0 < j → j ≤ 62 → Divisor (1 * 2 ^ j % 2 ^ 64)
 divisor zero l h = absurd (omega arith)
 divisor (suc j) l h = rw (shifted (suc j) (omega arith)) (record { above = pow-pos (suc j); most = pow-mono {i = suc j} {j = 62} h; even = omega (arith, pow-suc 2 j) })
 
--- ---- of few places: the whole seconds, and the rest
+-- ---- the whole seconds, and the rest
 pub rest-lt : (m k : ℕ) → k < 23 → m % (1 * 2 ^ k % 2 ^ 64) < 2 ^ 22
 rest-lt m k h = rw (shifted k (omega arith)) (lt-of-lt-of-le (mod-lt m (pow-pos k)) (pow-mono {i = k} {j = 22} (omega arith)))
 
@@ -69,7 +69,7 @@ in-seconds m k h = rw (shifted k (omega arith)) (sym (ap (λ (x : ℕ). closest 
     wider : (n d : ℕ) → 0 < d → closest n d ≡ closest (n * 8192 + 0) (d * 8192)
     wider n d D = closest-same n d (n * 8192 + 0) (d * 8192) D (omega arith) (let e = mul-assoc n d 8192 in let c = mul-right-comm n d 8192 in omega arith)
 
--- ---- of many: the two limbs of m * 5 ^ 9, and 10 ^ 9 for 5 ^ 9
+-- ---- the two limbs of m * 5 ^ 9, and 10 ^ 9 for 5 ^ 9
 limbs : (m : ℕ) → (m / 8192 * 1953125 + m % 8192 * 1953125 / 8192) * 8192 + m % 8192 * 1953125 % 8192 ≡ m * 1953125
 limbs m = omega arith
 

@@ -10,7 +10,7 @@ unfoldable pub asSecsF64 : ℕ → Float
 unfolding add div ofInt
 asSecsF64 ns = add binary64 (ofInt binary64 (pos (ns / 10 ^ 9))) (div binary64 (ofInt binary64 (pos (ns % 10 ^ 9))) (ofInt binary64 (pos (10 ^ 9))))
 
--- The nearest whole ns, a tie to the even one. Rust panics below 0 and at a NaN, which give 0 here, and above what its type holds. What a u64 does not hold is 2 ^ 64 - 1 here.
+-- The nearest whole ns, a tie to the even one. Rust panics at a NaN, below 0 and past what its `Duration` holds: here the first two are 0, and what a u64 does not hold is 2 ^ 64 - 1.
 unfoldable pub fromSecsF64 : Float → ℕ
 fromSecsF64 nan = 0
 fromSecsF64 (inf s) = cond s 0 (2 ^ 64 - 1)

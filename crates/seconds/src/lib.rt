@@ -27,8 +27,8 @@ fn closest_split(a: u64, b: u64, d: u64) -> u64
     if b == 0 { q + q % 2 } else { q + 1 }
 }
 
-// The whole number nearest to m * 10^9 / 2^k, a tie to the even one. Of few binary places the whole seconds are apart,
-// of many m * 5^9 is taken in two limbs, over 2^(k - 9).
+// The whole number nearest to m * 10^9 / 2^k, a tie to the even one. Of large values the whole seconds are taken apart first,
+// of others m * 5^9 in two limbs is divided by 2^(k - 9).
 fn closest_ns(m: u64, k: u64) -> u64
     requires { ⌜ (m < 2 ^ 53) × (18 ≤ k) × (k ≤ 84) × (closest (m * 10 ^ 9) (2 ^ k) < 2 ^ 64) ⌝ }
     ensures { λ r. ⌜ r ≡ closest (m * 10 ^ 9) (2 ^ k) ⌝ }

@@ -1,4 +1,4 @@
--- Of few places the whole seconds are apart, of many the quotient is that of two limbs (`Closest.antt`).
+-- An even number of ns, those of the whole seconds, may be taken apart before rounding, and a quotient of two limbs is that of the number they make (`Closest.antt`).
 use mathlib.Core.Path.{_∙_}
 use Prim.Native.Nat.{_-_}
 use native.Mathlib.Omega.{arith}
