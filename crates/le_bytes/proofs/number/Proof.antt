@@ -48,9 +48,10 @@ loop-less : tie.Need-loop-less Inv-loop μ-loop
 loop-less c = omega arith
 
 loop-again : tie.Need-loop-again Inv-loop μ-loop
-loop-again c =
-    (omega arith,
-    (rw (c .byte .ensures) (more _ _ _ _ _ (c .before .loop-test .taken) (c .before .before .loop .inv .0) (c .before .before .loop .inv .1 .0)), below c))
+loop-again c = (
+  omega arith,
+  (rw (c .byte .ensures) (more _ _ _ _ _ (c .before .loop-test .taken) (c .before .before .loop .inv .0) (c .before .before .loop .inv .1 .0)), below c),
+)
 
 returns : tie.Need-returns Inv-loop μ-loop
 returns c =
