@@ -1,7 +1,8 @@
--- Document 01's minimum, maximum, clamp, magnitude and ceiling, as Rust's `f64` has them, for every input.
-use Prim.Native.Nat.{_+_, _-_, _*_, _/_}
-use mathlib.Core.Bool.{true, false, cond}
+-- Rust's `f64::min`, `max`, `clamp`, `abs` and `ceil`, for every input.
+use Prim.Native.Nat.{ℕ, _+_, _-_, _*_, _/_}
+use mathlib.Core.Bool.{Bool, true, false, cond}
 use lib.Ieee.{Float, nan, inf, fin, binary64, up, down, isNan, lt, round}
+use Rattle.float_order.specs.Interval.{floats}
 
 -- the other operand where one is a NaN; of two equal numbers the first, so of two zeros of unlike sign too
 unfoldable pub min : Float → Float → Float
@@ -11,10 +12,10 @@ unfoldable pub max : Float → Float → Float
 max a b = cond (isNan a) b (cond (lt a b) b a)
 
 -- as Rust has it: up to lo where it is below, and then down to hi where it is above
-abbrev raised : Float → Float → Float
+abbrev pub raised : Float → Float → Float
 raised x lo = cond (lt x lo) lo x
 
-abbrev lowered : Float → Float → Float
+abbrev pub lowered : Float → Float → Float
 lowered x hi = cond (lt hi x) hi x
 
 unfoldable pub clamp : Float → Float → Float → Float
@@ -26,10 +27,19 @@ abs nan = nan
 abs (inf s) = inf false
 abs (fin s m e) = fin false m e
 
--- The least whole number at or above the value. Below zero that is the magnitude without its fraction, and a zero there is -0.
+-- the size of the least whole number at or above n / d, or -n / d where the sign is true
+abbrev pub upward : Bool → ℕ → ℕ → ℕ
+upward true n d = n / d
+upward false n d = (n + (d - 1)) / d
+
+-- It keeps the sign, so from -1 to 0 it is -0.
 unfoldable pub ceil : Float → Float
 unfolding round
 ceil nan = nan
 ceil (inf s) = inf s
-ceil (fin true m e) = round binary64 true (m * up e / down e) 1
-ceil (fin false m e) = round binary64 false ((m * up e + (down e - 1)) / down e) 1
+ceil (fin s m e) = round binary64 s (upward s (m * up e) (down e)) 1
+
+-- `unfold helpers in tt` opens these and the operations of `floats` at once, for a test that holds no variable
+unfoldable pub helpers : Bool
+unfolding floats min max clamp abs ceil
+helpers = true

@@ -1,19 +1,20 @@
 -- Bit patterns of positive finite values: a pattern below that of infinity is an exponent's field and 52 digits.
 use mathlib.Core.Path.{_≡_, refl, sym, ap, _∙_, subst}
-use mathlib.Core.Bool.{Bool, true, false, not, cond, _&&_}
-use Prim.Native.Nat.{ℕ, zero, suc, _+_, _-_, _*_, _/_, _%_, _^_, _≤_, _<_}
+use mathlib.Core.Bool.{Bool, true, false, not, cond}
+use Prim.Native.Nat.{ℕ, suc, _+_, _-_, _*_, _/_, _%_, _^_, _≤_, _<_}
 use native.Mathlib.Nat.{le-of-eq, lt-of-lt-of-le, mul-right-comm, mul-div-cancel, eq-of-mul-eq-mul-right, mod-eq-of-lt, div-lt-iff-lt-mul, mul-lt-mul-of-pos-right}
 use native.Mathlib.Omega.{arith}
 use borrow.Author.Tests.{ne-eqb, lt-leb}
-use lib.Dec.{T, not-T, leb, ltb, eqb, ltb→lt}
-use lib.IntN.{ℤ, pos, negsuc}
+use lib.Dec.{T, not-T, ltb, eqb, ltb→lt}
+use lib.IntN.{ℤ}
 use lib.Pow.{pow-pos, shl-shr}
 use lib.Ieee.{Float, nan, inf, fin, binary64, up, down, size, odd, ofFields, ofBits, toBits, fits, nanBits}
 use lib.Ieee.Digits.{size-le}
-use lib.Ieee.Fits.{and-r, down-pos, kept-lt}
+use lib.Ieee.Fits.{down-pos, kept-lt}
 use lib.Ieee.Exact.{HasValue, odd-sign}
 use lib.Ieee.Bits.{nanBits-above}
 use Rattle.float_order.specs.Digits.{size-shifted}
+use Rattle.float_order.specs.Exact.{held}
 
 -- ---- the pattern of a positive finite value
 -- the magnitude in units of the smallest value, of a float that is a / c in size
@@ -31,7 +32,8 @@ written r j l h =
     let k : size (r * 2 ^ j) - 53 ≡ j = omega arith in
     ap (λ (x : ℕ). x * 2 ^ 52 + r * 2 ^ j / 2 ^ x) k ∙ ap (λ (x : ℕ). j * 2 ^ 52 + x) (shl-shr r j)
 
-pub to-bits : (x : Float) (a c r j : ℕ) → 0 < c → HasValue x false a c → a * 2 ^ 1074 ≡ r * 2 ^ j * c → 2 ^ 52 ≤ r → r < 2 ^ 53 → toBits binary64 x ≡ j * 2 ^ 52 + r
+pub to-bits : (x : Float) (a c r j : ℕ) → 0 < c → HasValue x false a c → a * 2 ^ 1074 ≡ r * 2 ^ j * c → 2 ^ 52 ≤ r → r < 2 ^ 53
+    → toBits binary64 x ≡ j * 2 ^ 52 + r
 unfolding toBits
 to-bits (fin true m e) a c r j p v k l h = absurd (clash (v .0))
   where
@@ -74,11 +76,12 @@ bound : (n : ℕ) → n < 2 ^ 2098 → 0 + (size n - 53) * 2 ^ 52 + n / 2 ^ (siz
 bound n h = omega (arith, size-le n 2098 h, kept-lt 53 n)
 
 pub finite-bound : (m : ℕ) (e : ℤ) → T (fits binary64 (fin false (suc m) e)) → toBits binary64 (fin false (suc m) e) < 2047 * 2 ^ 52
-unfolding fits toBits
+unfolding toBits
 finite-bound m e h =
-    let d : suc m * up e < 2 ^ 1024 * down e = ltb→lt (suc m * up e) (2 ^ 1024 * down e) (and-r (eqb (suc m % 2) 1 && ltb (suc m) (2 ^ 53) && leb (down e) (2 ^ 1074)) (ltb (suc m * up e) (2 ^ 1024 * down e)) h) in
+    let d : suc m * up e < 2 ^ 1024 * down e = held binary64 false (suc m) e h .high in
     bound (suc m * up e * 2 ^ 1074 / down e) (div-lt-iff-lt-mul {k = down e} {x = suc m * up e * 2 ^ 1074} {y = 2 ^ 2098} (down-pos e) .1
     (lt-of-lt-of-le (mul-lt-mul-of-pos-right d (pow-pos 1074)) (le-of-eq (mul-right-comm (2 ^ 1024) (down e) (2 ^ 1074)))))
 
 pub no-nan-bits : (n : ℕ) → n < 2047 * 2 ^ 52 → T (not (nanBits binary64 n))
-no-nan-bits n h = subst (λ (t : Bool). T (not t)) (sym (nanBits-above binary64 n)) (not-T (ltb (2047 * 2 ^ 52) (n % 2 ^ 63)) (λ t. omega (arith, ltb→lt (2047 * 2 ^ 52) (n % 2 ^ 63) t)))
+no-nan-bits n h =
+    subst (λ (t : Bool). T (not t)) (sym (nanBits-above binary64 n)) (not-T (ltb (2047 * 2 ^ 52) (n % 2 ^ 63)) (λ t. omega (arith, ltb→lt (2047 * 2 ^ 52) (n % 2 ^ 63) t)))

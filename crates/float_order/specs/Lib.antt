@@ -1,3 +1,4 @@
+pub mod Arith
 pub mod Order
 pub mod Round
 pub mod Ops
@@ -11,8 +12,10 @@ pub mod Plus
 pub mod Error
 pub mod Relative
 pub mod Dyadic
+pub mod Equal
 pub mod Gaps
 pub mod Casts
 pub mod Digits
 pub mod Bits
+pub mod Examples
 pub mod Binary64

@@ -1,2 +1,2 @@
-pub mod Halves
-pub mod Instants
+pub mod Closest
+pub mod Fields

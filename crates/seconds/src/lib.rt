@@ -1,10 +1,6 @@
 // Rust's `Duration::as_secs_f64` and `Duration::from_secs_f64`, of a duration in whole ns.
 ghost use mathlib.Core.Path.{_≡_};
 ghost use Prim.Native.Nat.{_+_, _*_, _%_, _^_, _≤_, _<_};
-ghost use lib.Dec.{T};
-ghost use lib.IntN.{pos};
-ghost use lib.Ieee as Ieee;
-ghost use lib.Ieee.{binary64};
 ghost use lib.Ieee.Nearest.{closest};
 ghost use Rattle.seconds.specs.Seconds.{asSecsF64, fromSecsF64};
 
@@ -31,11 +27,16 @@ fn closest_split(a: u64, b: u64, d: u64) -> u64
     if b == 0 { q + q % 2 } else { q + 1 }
 }
 
-// The whole number nearest to m * 10^9 / 2^k, a tie to the even one: m * 5^9 in two limbs, over 2^(k - 9).
+// The whole number nearest to m * 10^9 / 2^k, a tie to the even one. Of large values the whole seconds are taken apart first,
+// of others m * 5^9 in two limbs is divided by 2^(k - 9).
 fn closest_ns(m: u64, k: u64) -> u64
-    requires { ⌜ (m < 2 ^ 53) × (23 ≤ k) × (k ≤ 84) ⌝ }
+    requires { ⌜ (m < 2 ^ 53) × (18 ≤ k) × (k ≤ 84) × (closest (m * 10 ^ 9) (2 ^ k) < 2 ^ 64) ⌝ }
     ensures { λ r. ⌜ r ≡ closest (m * 10 ^ 9) (2 ^ k) ⌝ }
 {
+    if k < 23 {
+        let d = 1u64 << k;
+        return (m / d) * 1000000000 + closest_split((m % d) * 1000000000, 0, d);
+    }
     let low = (m % 8192) * 1953125;
     closest_split(
         (m / 8192) * 1953125 + low / 8192,
@@ -44,17 +45,21 @@ fn closest_ns(m: u64, k: u64) -> u64
     )
 }
 
-// Seconds as whole ns: the nearest, a tie to the even one.
+// Seconds as whole ns: the nearest, a tie to the even one. A NaN and what is below 0 is 0, and what a u64 does not hold is 2^64 - 1.
 pub fn from_secs_f64(x: f64) -> u64
-    requires { ⌜ T (Ieee.le (Ieee.ofInt binary64 (pos 0)) x) × T (Ieee.le x (Ieee.ofInt binary64 (pos (10 ^ 9)))) ⌝ }
     ensures { λ r. ⌜ r ≡ fromSecsF64 x ⌝ }
 {
-    if x < 2.3283064365386963e-10 {
-        return 0;
+    // the least f64 that is 2^64 ns or more
+    if x >= 18446744073.709553 {
+        return 18446744073709551615;
     }
-    let b = f64::to_bits(x);
-    closest_ns(
-        b % 4503599627370496 + 4503599627370496,
-        1075 - b / 4503599627370496,
-    )
+    // 2^-32 s, which is below half a ns
+    if x >= 2.3283064365386963e-10 {
+        let b = f64::to_bits(x);
+        return closest_ns(
+            b % 4503599627370496 + 4503599627370496,
+            1075 - b / 4503599627370496,
+        );
+    }
+    0
 }

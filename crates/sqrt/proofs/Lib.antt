@@ -1,6 +1,7 @@
+pub mod Rows
 pub mod Digits
-pub mod Squares
 pub mod Rounded
-pub mod Patterns
-pub mod Scaled
+pub mod Units
+pub mod Products
+pub mod Equal
 pub mod Cases

@@ -1,96 +1,105 @@
--- The root of N units, from the whole root of a number that is 4 ^ k times smaller than N * 4 ^ 53. Assumes nothing.
-use mathlib.Core.Path.{_≡_, refl, sym, ap, _∙_, subst}
-use mathlib.Core.Bool.{Bool, true, false, not, cond}
-use mathlib.Core.Logic.{_⊎_, inl, inr, ⊎-elim}
-use Prim.Native.Nat.{ℕ, zero, suc, _+_, _-_, _*_, _/_, _%_, _^_, _≤_, _<_, compare, Ordering, Ordering·lt, Ordering·eq, Ordering·gt}
-use native.Mathlib.Nat.{le-trans, le-of-eq, lt-of-lt-of-le, lt-of-le-of-lt, lt-irrefl, pow-suc, mul-le-mul-right, mul-lt-mul-of-pos-right, mul-mul-mul-comm, mul-assoc, mul-pos, mul-le-mul, div-eq-of-lt-le}
+-- The root of N units by its bit pattern, from the whole root p, of 54 digits, of a number m that is 4 ^ j times smaller than N * 4 ^ 53.
+-- Twice the root of N * 4 ^ 53 is at least p * 2 ^ (j + 1) and below (p + 1) * 2 ^ (j + 1). It is midway between two numbers of 53 digits only if p is odd and p * p is m, a multiple of 4: never.
+use mathlib.Core.Path.{_≡_, refl, sym, ap, _∙_}
+use mathlib.Core.Bool.{Bool, true, false, cond}
+use Prim.Native.Nat.{ℕ, zero, suc, _+_, _-_, _*_, _/_, _%_, _^_, _≤_, _<_, compare}
+use native.Mathlib.Nat.{lt-of-lt-of-le, mul-le-mul-right, mul-lt-mul-of-pos-right, mul-mul-mul-comm, mul-assoc, mul-right-comm, mul-pos, add-mul, div-add-mod', div-eq-of-lt-le, mul-div-cancel}
 use native.Mathlib.Omega.{arith}
-use lib.Dec.{T, isLe, isEq, leb, eqb, leb→le, nleb→lt, eqb→eq, le→leb}
-use lib.Pow.{pow-pos, pow-add, pow-mono}
-use lib.Ieee.{Float, binary64, size, nearest, round}
-use lib.Ieee.Digits.{size-lt, size-le}
+use lib.Dec.{T, eqb, eqb→eq}
+use lib.Pow.{pow-pos, pow-add, pow-mono, shl-lt}
+use lib.Ieee.{binary64, size, nearest, units, round, ofBits}
+use lib.Ieee.Fits.{round-is, round-fits}
+use lib.Ieee.Bits.{ofBits-toBits}
+use lib.Ieee.Exact.{HasValue, units-val}
+use lib.Ieee.Nearest.{closest, closest-same}
+use Rattle.float_order.specs.Bits.{to-bits}
 use Rattle.float_order.specs.Digits.{compare-lt, compare-gt, size-shifted}
 use Rattle.sqrt.specs.Sqrt.{wholeRoot, rootUnits}
-use Rattle.sqrt.proofs.Digits.{square-even, square-odd, square-next}
-use Rattle.sqrt.proofs.Squares.{IsRoot, root-le, root-lt, whole}
+use Rattle.sqrt.specs.WholeRoot.{IsRoot, root-ge, root-lt, square-lt, square-odd}
+use Rattle.sqrt.specs.Laws.{halves, root-units}
 
--- ---- the root
-parity : (p : ℕ) → (p ≡ 2 * (p / 2)) ⊎ (p ≡ 2 * (p / 2) + 1)
-parity p = go (p % 2) refl
-  where
-    go : (r : ℕ) → p % 2 ≡ r → (p ≡ 2 * (p / 2)) ⊎ (p ≡ 2 * (p / 2) + 1)
-    go zero e = inl (omega arith)
-    go (suc zero) e = inr (omega arith)
-    go (suc (suc r)) e = absurd (omega arith)
+-- ---- t / (2 * u) to the nearest whole number, where p * u ≤ t < (p + 1) * u, above p * u for an odd p
+module _ (t u p : ℕ) (U : 0 < u) (l : p * u ≤ t) (h : t < (p + 1) * u) where
+  even : p * u ≡ p / 2 * (2 * u) + p % 2 * u
+  even = ap (λ (x : ℕ). x * u) (sym (div-add-mod' p 2)) ∙ add-mul (p / 2 * 2) (p % 2) u ∙ ap (λ (x : ℕ). x + p % 2 * u) (mul-assoc (p / 2) 2 u)
 
--- what `rootUnits` gives, where k digits are dropped and q is left
-abbrev body : ℕ → ℕ → ℕ → Float
-body n k q = round binary64 false (nearest q (compare (4 * n) ((2 * q + 1) * 2 ^ k * ((2 * q + 1) * 2 ^ k))) * 2 ^ k) (2 ^ 590)
+  next : (p + 1) * u ≡ p * u + u
+  next = omega (arith, add-mul p 1 u)
 
-body-is : (N : ℕ) → rootUnits N ≡ body (N * 4 ^ 53) (size (wholeRoot (N * 4 ^ 53)) - 53) (wholeRoot (N * 4 ^ 53) / 2 ^ (size (wholeRoot (N * 4 ^ 53)) - 53))
-unfolding rootUnits
-body-is N = refl
+  whole-part : t / (2 * u) ≡ p / 2
+  whole-part = div-eq-of-lt-le {k = p / 2} (2 * u) (omega (arith, even)) (omega (arith, even, next, add-mul (p / 2) 1 (2 * u), mul-le-mul-right {m = p % 2} {n = 1} u (omega arith)))
 
--- n is 4 ^ k times n0, and p is the whole root of 4 * n0: 54 digits, of which the last says which way to round
-module _ (n n0 k p : ℕ) (scaled : n ≡ n0 * (2 ^ k * 2 ^ k)) (is : IsRoot (4 * n0) p) (low : 2 ^ 53 ≤ p) (high : p < 2 ^ 54) where
-  unit : 0 < 2 ^ k * 2 ^ k
-  unit = mul-pos (pow-pos k) (pow-pos k)
+  rest : p / 2 * (2 * u) + t % (2 * u) ≡ t
+  rest = rw (← whole-part) (div-add-mod' t (2 * u))
 
-  below : p / 2 * (p / 2) ≤ n0
-  below =
-      let a : 2 * (p / 2) * (2 * (p / 2)) ≤ p * p = mul-le-mul {n₁ = 2 * (p / 2)} {m₁ = 2 * (p / 2)} (omega arith) (omega arith) in
-      omega (arith, square-even (p / 2), is .0)
+  half : (p % 2 ≡ 1 → p * u < t) → closest t (2 * u) ≡ (p + 1) / 2
+  half o = rw whole-part (go (p % 2) refl)
+    where
+      go : (r : ℕ) → p % 2 ≡ r → nearest (p / 2) (compare (t % (2 * u) * 2) (2 * u)) ≡ (p + 1) / 2
+      go zero e = ap (nearest (p / 2)) (compare-lt (t % (2 * u) * 2) (2 * u) (omega (arith, rw e at even, next, rest))) ∙ omega arith
+      go (suc zero) e = ap (nearest (p / 2)) (compare-gt (t % (2 * u) * 2) (2 * u) (omega (arith, rw e at even, o e, rest))) ∙ omega arith
+      go (suc (suc r)) e = absurd (omega arith)
 
-  above : n0 < (p / 2 + 1) * (p / 2 + 1)
-  above =
-      let a : (p + 1) * (p + 1) ≤ 2 * (p / 2 + 1) * (2 * (p / 2 + 1)) = mul-le-mul {n₁ = p + 1} {m₁ = p + 1} (omega arith) (omega arith) in
-      omega (arith, square-even (p / 2 + 1), is .1)
+-- ---- twice the root of n, which is 4 ^ j times m, a multiple of 4 with the whole root p
+module _ (n m j p : ℕ) (scaled : n ≡ m * (2 ^ j * 2 ^ j)) (four : m % 4 ≡ 0) (is : IsRoot m p) where
+  square : (a : ℕ) → a * 2 ^ j * (a * 2 ^ j) ≡ a * a * (2 ^ j * 2 ^ j)
+  square a = mul-mul-mul-comm a (2 ^ j) a (2 ^ j)
 
-  s-low : p / 2 * 2 ^ k ≤ wholeRoot n
-  s-low =
-      root-le (p / 2 * 2 ^ k) (wholeRoot n)
-      (lt-of-le-of-lt
-      (le-trans (le-of-eq (mul-mul-mul-comm (p / 2) (2 ^ k) (p / 2) (2 ^ k))) (le-trans (mul-le-mul-right (2 ^ k * 2 ^ k) below) (le-of-eq (sym scaled))))
-      (whole n .1))
+  twice : (a : ℕ) → a * 2 ^ (j + 1) ≡ 2 * (a * 2 ^ j)
+  twice a = omega (arith, mul-assoc a (2 ^ j) 2, ap (λ (x : ℕ). a * x) (pow-add 2 j 1))
 
-  s-high : wholeRoot n < (p / 2 + 1) * 2 ^ k
-  s-high =
-      root-lt (wholeRoot n) ((p / 2 + 1) * 2 ^ k)
-      (lt-of-le-of-lt (le-trans (whole n .0) (le-of-eq scaled))
-      (lt-of-lt-of-le (mul-lt-mul-of-pos-right above unit) (le-of-eq (sym (mul-mul-mul-comm (p / 2 + 1) (2 ^ k) (p / 2 + 1) (2 ^ k))))))
+  low : p * 2 ^ j ≤ wholeRoot n
+  low = root-ge n (p * 2 ^ j) (rw (square p, scaled) (mul-le-mul-right (2 ^ j * 2 ^ j) (is .0)))
 
-  kept : wholeRoot n / 2 ^ k ≡ p / 2
-  kept = div-eq-of-lt-le {k = p / 2} (2 ^ k) s-low s-high
+  high : wholeRoot n < (p + 1) * 2 ^ j
+  high = root-lt n ((p + 1) * 2 ^ j) (rw (square (p + 1), scaled) (mul-lt-mul-of-pos-right (is .1) (mul-pos (pow-pos j) (pow-pos j))))
 
-  dropped : size (wholeRoot n) - 53 ≡ k
-  dropped = omega (arith, size-shifted (p / 2) 52 k (wholeRoot n) (omega arith) (omega arith) s-low s-high)
+  -- an odd p has a square below m
+  apart : p % 2 ≡ 1 → p * 2 ^ j * (p * 2 ^ j) < n
+  apart o =
+      let e : p ≡ 2 * (p / 2) + 1 = omega arith in
+      let l : p * p < m = omega (arith, ap (λ (x : ℕ). x * x) e, square-odd (p / 2)) in
+      rw (square p, scaled) (mul-lt-mul-of-pos-right l (mul-pos (pow-pos j) (pow-pos j)))
 
-  four : 4 * n ≡ 4 * n0 * (2 ^ k * 2 ^ k)
-  four = ap (λ (x : ℕ). 4 * x) scaled ∙ sym (mul-assoc 4 n0 (2 ^ k * 2 ^ k))
+  between : (p * 2 ^ (j + 1) ≤ halves n) × (halves n < (p + 1) * 2 ^ (j + 1)) × (p % 2 ≡ 1 → p * 2 ^ (j + 1) < halves n)
+  between = go (eqb (wholeRoot n * wholeRoot n) n) (eqb→eq (wholeRoot n * wholeRoot n) n)
+    where
+      go : (b : Bool) → (T b → wholeRoot n * wholeRoot n ≡ n)
+          → (p * 2 ^ (j + 1) ≤ 2 * wholeRoot n + cond b 0 1) × (2 * wholeRoot n + cond b 0 1 < (p + 1) * 2 ^ (j + 1)) × (p % 2 ≡ 1 → p * 2 ^ (j + 1) < 2 * wholeRoot n + cond b 0 1)
+      go true f = (omega (arith, twice p, low), omega (arith, twice (p + 1), high), λ o. omega (arith, twice p, square-lt (p * 2 ^ j) (wholeRoot n) (rw (f tt) (apart o))))
+      go false f = (omega (arith, twice p, low), omega (arith, twice (p + 1), high), λ o. omega (arith, twice p, low))
 
-  odd-square : (2 * (p / 2) + 1) * 2 ^ k * ((2 * (p / 2) + 1) * 2 ^ k) ≡ (2 * (p / 2) + 1) * (2 * (p / 2) + 1) * (2 ^ k * 2 ^ k)
-  odd-square = mul-mul-mul-comm (2 * (p / 2) + 1) (2 ^ k) (2 * (p / 2) + 1) (2 ^ k)
+-- ---- such a number, as a fraction of 2 ^ 591, rounds to (p + 1) / 2 of its leading digits
+regroup : (t a u b c : ℕ) → a * 2 ≡ b * c → t * a * (2 * u) ≡ t * (b * (u * c))
+regroup t a u b c e = mul-assoc t a (2 * u) ∙ ap (λ (x : ℕ). t * x) (sym (mul-assoc a 2 u) ∙ ap (λ (x : ℕ). x * u) e ∙ mul-right-comm b c u ∙ mul-assoc b u c)
 
-  stay : p ≡ 2 * (p / 2) → nearest (p / 2) (compare (4 * n) ((2 * (p / 2) + 1) * 2 ^ k * ((2 * (p / 2) + 1) * 2 ^ k))) ≡ (p + 1) / 2
-  stay e =
-      let a : 4 * n0 < (2 * (p / 2) + 1) * (2 * (p / 2) + 1) = subst (λ (x : ℕ). 4 * n0 < (x + 1) * (x + 1)) e (is .1) in
-      let b = compare-lt (4 * n) ((2 * (p / 2) + 1) * 2 ^ k * ((2 * (p / 2) + 1) * 2 ^ k))
-      (lt-of-le-of-lt (le-of-eq four) (lt-of-lt-of-le (mul-lt-mul-of-pos-right a unit) (le-of-eq (sym odd-square)))) in
-      ap (nearest (p / 2)) b ∙ omega arith
+module _ (t k p : ℕ) (low : 2 ^ 53 ≤ p) (high : p < 2 ^ 54) (h : (p * 2 ^ k ≤ t) × (t < (p + 1) * 2 ^ k) × (p % 2 ≡ 1 → p * 2 ^ k < t)) where
+  join : (a : ℕ) → a * 2 ^ (k + 483) ≡ a * 2 ^ k * 2 ^ 483
+  join a = ap (λ (x : ℕ). a * x) (pow-add 2 k 483) ∙ sym (mul-assoc a (2 ^ k) (2 ^ 483))
 
-  move : p ≡ 2 * (p / 2) + 1 → nearest (p / 2) (compare (4 * n) ((2 * (p / 2) + 1) * 2 ^ k * ((2 * (p / 2) + 1) * 2 ^ k))) ≡ (p + 1) / 2
-  move e =
-      let a : (2 * (p / 2) + 1) * (2 * (p / 2) + 1) ≤ 4 * n0 = subst (λ (x : ℕ). x * x ≤ 4 * n0) e (is .0) in
-      let c : (2 * (p / 2) + 1) * (2 * (p / 2) + 1) < 4 * n0 = omega (arith, square-odd (p / 2)) in
-      let b = compare-gt (4 * n) ((2 * (p / 2) + 1) * 2 ^ k * ((2 * (p / 2) + 1) * 2 ^ k))
-      (lt-of-le-of-lt (le-of-eq odd-square) (lt-of-lt-of-le (mul-lt-mul-of-pos-right c unit) (le-of-eq (sym four)))) in
-      ap (nearest (p / 2)) b ∙ omega arith
+  dropped : size (t * 2 ^ 1074 / 2 ^ 591) - 53 ≡ k + 484
+  dropped =
+      ap (λ (x : ℕ). size (x / 2 ^ 591) - 53) (sym (mul-assoc t (2 ^ 483) (2 ^ 591)))
+      ∙ ap (λ (x : ℕ). size x - 53) (mul-div-cancel (t * 2 ^ 483) (pow-pos 591))
+      ∙ ap (λ (x : ℕ). x - 53) (size-shifted p 53 (k + 483) (t * 2 ^ 483) low high (rw (join p) (mul-le-mul-right (2 ^ 483) (h .0))) (rw (join (p + 1)) (mul-lt-mul-of-pos-right (h .1) (pow-pos 483))))
+      ∙ omega arith
 
-  rounded : body n (size (wholeRoot n) - 53) (wholeRoot n / 2 ^ (size (wholeRoot n) - 53)) ≡ round binary64 false ((p + 1) / 2 * 2 ^ k) (2 ^ 590)
+  rounded : round binary64 false t (2 ^ 591) ≡ units binary64 false ((p + 1) / 2) (k + 484)
   rounded =
-      ap (λ (x : ℕ). body n x (wholeRoot n / 2 ^ x)) dropped
-      ∙ ap (body n k) kept
-      ∙ ap (λ (x : ℕ). round binary64 false (x * 2 ^ k) (2 ^ 590)) (⊎-elim stay move (parity p))
+      round-is binary64 false t (2 ^ 591)
+      ∙ ap (λ (x : ℕ). units binary64 false (closest (t * 2 ^ 1074) (2 ^ 591 * 2 ^ x)) x) dropped
+      ∙ ap (λ (x : ℕ). units binary64 false x (k + 484))
+      (closest-same (t * 2 ^ 1074) (2 ^ 591 * 2 ^ (k + 484)) t (2 * 2 ^ k) (mul-pos (pow-pos 591) (pow-pos (k + 484))) (mul-pos (pow-pos 1) (pow-pos k))
+      (regroup t (2 ^ 1074) (2 ^ k) (2 ^ 591) (2 ^ 484) refl ∙ ap (λ (x : ℕ). t * (2 ^ 591 * x)) (sym (pow-add 2 k 484)))
+      ∙ half t (2 ^ k) p (pow-pos k) (h .0) (h .1) (h .2))
 
-pub root-rounded : (N n0 k p : ℕ) → N * 4 ^ 53 ≡ n0 * (2 ^ k * 2 ^ k) → IsRoot (4 * n0) p → 2 ^ 53 ≤ p → p < 2 ^ 54 → rootUnits N ≡ round binary64 false ((p + 1) / 2 * 2 ^ k) (2 ^ 590)
-root-rounded N n0 k p e is low high = body-is N ∙ rounded (N * 4 ^ 53) n0 k p e is low high
+pub root-bits : (N m j p : ℕ) → N * 4 ^ 53 ≡ m * (2 ^ j * 2 ^ j) → m % 4 ≡ 0 → IsRoot m p → 2 ^ 53 ≤ p → p < 2 ^ 54 - 1 → j + 485 < 2046 → rootUnits N ≡ ofBits binary64 ((j + 1 + 484) * 2 ^ 52 + (p + 1) / 2)
+root-bits N m j p e four is low high b =
+    let t = halves (N * 4 ^ 53) in
+    let r = (p + 1) / 2 in
+    let k = j + 1 + 484 in
+    let small : r * 2 ^ k < 2 ^ 2098 = lt-of-lt-of-le (shl-lt 53 k (omega arith)) (pow-mono {i = 53 + k} {j = 2098} (omega arith)) in
+    let v : HasValue (round binary64 false t (2 ^ 591)) false (r * 2 ^ k) (2 ^ 1074) = rw (rounded t (j + 1) p low (omega arith) (between (N * 4 ^ 53) m j p e four is)) (units-val binary64 false r k small) in
+    root-units N
+    ∙ sym (ofBits-toBits binary64 (round binary64 false t (2 ^ 591)) (round-fits binary64 false t (2 ^ 591)))
+    ∙ ap (ofBits binary64) (to-bits (round binary64 false t (2 ^ 591)) (r * 2 ^ k) (2 ^ 1074) r k (pow-pos 1074) v refl (omega arith) (omega arith))

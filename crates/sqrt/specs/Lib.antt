@@ -1,1 +1,4 @@
 pub mod Sqrt
+pub mod WholeRoot
+pub mod Laws
+pub mod RootBits

@@ -1,14 +1,49 @@
-// IEEE 754's square root of an `f64`, for every input.
+// IEEE 754's square root of an `f64`, for every input, and the test whether a float is the root of another.
 ghost use mathlib.Core.Path.{_≡_};
-ghost use Prim.Native.Nat.{_+_, _*_, _^_, _≤_, _<_};
+ghost use Prim.Native.Nat.{_+_, _*_, _/_, _^_, _<_};
+ghost use lib.Dec.{eqb};
 ghost use lib.Ieee as Ieee;
 ghost use lib.Ieee.{binary64};
-ghost use Rattle.sqrt.specs.Sqrt.{sqrt, rootUnits};
+ghost use Rattle.sqrt.specs.Sqrt.{sqrt, rootUnits, wholeRoot};
+ghost use Rattle.sqrt.specs.RootBits.{rootBits, Sized};
+
+// A root, by its bit pattern: base plus half of the whole root of big * 2^54, rounded up.
+struct Root {
+    big: u64,
+    base: u64,
+}
+
+// The root of m * 2^e units of 2^-1074: m is brought to 53 digits, and the power to an even one.
+fn root_of(m: u64, e: u64) -> Root
+    requires { ⌜ (0 < m) × (m < 2 ^ 53) × (e < 2046) ⌝ }
+    ensures { λ r. ⌜ Sized (r .big) (r .base) × (rootUnits (m * 2 ^ e) ≡ Ieee.ofBits binary64 (rootBits (r .big) (r .base))) ⌝ }
+{
+    let z = (u64::leading_zeros(m) as u64) - 11;
+    let p = e + 54 - z;
+    Root {
+        big: (m << z) << (p % 2),
+        base: (p / 2 + 484) * 4503599627370496,
+    }
+}
+
+// The root of the float whose pattern is b: finite and above 0.
+fn root_at(b: u64) -> Root
+    requires { ⌜ (0 < b) × (b < 2047 * 2 ^ 52) ⌝ }
+    ensures { λ r. ⌜ Sized (r .big) (r .base) × (sqrt (Ieee.ofBits binary64 b) ≡ Ieee.ofBits binary64 (rootBits (r .big) (r .base))) ⌝ }
+{
+    let k = b / 4503599627370496;
+    let t = b % 4503599627370496;
+    if k == 0 {
+        root_of(t, 0)
+    } else {
+        root_of(t + 4503599627370496, k - 1)
+    }
+}
 
 // The whole root of m * 2^54, digit by digit: each turn takes two binary digits of m * 2^10, and zeros after its 64.
 fn root54(m: u64) -> u64
     requires { ⌜ m < 2 ^ 54 ⌝ }
-    ensures { λ r. ⌜ (r * r ≤ m * 2 ^ 54) × (m * 2 ^ 54 < (r + 1) * (r + 1)) ⌝ }
+    ensures { λ r. ⌜ r ≡ wholeRoot (m * 2 ^ 54) ⌝ }
 {
     let mut a = m * 1024;
     let mut q: u64 = 0;
@@ -29,31 +64,6 @@ fn root54(m: u64) -> u64
     q
 }
 
-// The bit pattern of the root of m * 2^e units.
-fn root_of(m: u64, e: u64) -> u64
-    requires { ⌜ (0 < m) × (m < 2 ^ 53) × (e < 2046) ⌝ }
-    ensures { λ r. ⌜ (Ieee.ofBits binary64 r ≡ rootUnits (m * 2 ^ e)) × (r < 2047 * 2 ^ 52) ⌝ }
-{
-    let z = (u64::leading_zeros(m) as u64) - 11;
-    let p = e + 54 - z;
-    let q = root54((m << z) << (p % 2));
-    (p / 2 + 484) * 4503599627370496 + (q + 1) / 2
-}
-
-// The bit pattern of the root of the float whose pattern is b: finite and above 0.
-fn root_bits(b: u64) -> u64
-    requires { ⌜ (0 < b) × (b < 2047 * 2 ^ 52) ⌝ }
-    ensures { λ r. ⌜ (Ieee.ofBits binary64 r ≡ sqrt (Ieee.ofBits binary64 b)) × (r < 2047 * 2 ^ 52) ⌝ }
-{
-    let k = b / 4503599627370496;
-    let t = b % 4503599627370496;
-    if k == 0 {
-        root_of(t, 0)
-    } else {
-        root_of(t + 4503599627370496, k - 1)
-    }
-}
-
 // IEEE 754's square root.
 pub fn sqrt(x: f64) -> f64
     ensures { λ r. ⌜ r ≡ sqrt x ⌝ }
@@ -71,5 +81,54 @@ pub fn sqrt(x: f64) -> f64
     if b == 0x7ff0_0000_0000_0000 {
         return x;
     }
-    f64::from_bits(root_bits(b))
+    let r = root_at(b);
+    f64::from_bits(r.base + (root54(r.big) + 1) / 2)
+}
+
+// s * s without its low 54 binary digits, from the halves of s.
+fn square_high(s: u64) -> u64
+    requires { ⌜ s < 2 ^ 54 ⌝ }
+    ensures { λ r. ⌜ r ≡ s * s / 2 ^ 54 ⌝ }
+{
+    let a = s / 134217728;
+    let b = s % 134217728;
+    a * a + (2 * a * b + b * b / 134217728) / 134217728
+}
+
+// Is b the pattern of the root? Its significand is q exactly if big * 2^54 lies between the squares of 2q - 1 and 2q + 1, which are odd and so never equal to it.
+fn has_bits(r: Root, b: u64) -> bool
+    requires { ⌜ Sized (r .big) (r .base) ⌝ }
+    ensures { λ t. ⌜ t ≡ eqb b (rootBits (r .big) (r .base)) ⌝ }
+{
+    if b < r.base + 4503599627370496 {
+        return false;
+    }
+    let q = b - r.base;
+    if 9007199254740992 <= q {
+        return false;
+    }
+    (square_high(2 * q - 1) < r.big) & (r.big <= square_high(2 * q + 1))
+}
+
+// Rust's `d == v.sqrt()`, by exact products: no loop, and no root taken.
+pub fn is_sqrt(d: f64, v: f64) -> bool
+    ensures { λ t. ⌜ t ≡ Ieee.eq d (sqrt v) ⌝ }
+{
+    if d != d {
+        return false;
+    }
+    if v != v {
+        return false;
+    }
+    if v == 0.0 {
+        return d == 0.0;
+    }
+    if v < 0.0 {
+        return false;
+    }
+    let b = f64::to_bits(v);
+    if b == 0x7ff0_0000_0000_0000 {
+        return d == v;
+    }
+    has_bits(root_at(b), f64::to_bits(d))
 }

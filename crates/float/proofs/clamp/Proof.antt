@@ -1,25 +1,20 @@
+-- Each return is an arm of the definition.
 use Rattle.float.specs.Float.{clamp}
 use Rattle.float.proofs.clamp.Statement.{statement}
 use Rattle.float.proofs.clamp.Tie as tie
-use Rattle.float.proofs.clamp.Reads as reads
-use Rattle.float.proofs.clamp.Lts as lts
 
--- src/lib.rt:29:1
 returns : tie.Need-returns
 unfolding clamp
 returns c = simp (c .before .if1 .taken, c .if2 .taken)
 
--- src/lib.rt:29:1
 returns-2 : tie.Need-returns-2
 unfolding clamp
 returns-2 c = simp (c .before .if1 .taken, c .if2 .left)
 
--- src/lib.rt:29:1
 returns-3 : tie.Need-returns-3
 unfolding clamp
 returns-3 c = simp (c .before .if1 .left, c .if3 .taken)
 
--- src/lib.rt:29:1
 returns-4 : tie.Need-returns-4
 unfolding clamp
 returns-4 c = simp (c .before .if1 .left, c .if3 .left)

@@ -1,22 +1,18 @@
+-- Each return is an arm of the definition, and only a NaN differs from itself.
 use mathlib.Core.Path.{sym, _∙_}
-use Rattle.float.specs.Float.{max}
 use Rattle.float_order.specs.Order.{ne-self}
+use Rattle.float.specs.Float.{max}
 use Rattle.float.proofs.max.Statement.{statement}
 use Rattle.float.proofs.max.Tie as tie
-use Rattle.float.proofs.max.Reads as reads
-use Rattle.float.proofs.max.Lts as lts
 
--- src/lib.rt:23:9
 returns : tie.Need-returns
 unfolding max
 returns c = simp (sym (ne-self _) ∙ c .if1 .taken)
 
--- src/lib.rt:19:1
 returns-2 : tie.Need-returns-2
 unfolding max
 returns-2 c = simp (sym (ne-self _) ∙ c .before .if1 .left, c .if2 .taken)
 
--- src/lib.rt:19:1
 returns-3 : tie.Need-returns-3
 unfolding max
 returns-3 c = simp (sym (ne-self _) ∙ c .before .if1 .left, c .if2 .left)

@@ -1,25 +1,25 @@
--- `sqrt::sqrt` meets its contract: each test sends one kind of float on (`Cases.antt`). Assumes nothing.
+-- `sqrt::sqrt` meets its contract: each test sends one kind of float on (`Cases.antt`).
 use mathlib.Core.Path.{sym, ap, subst, _∙_}
+use native.Mathlib.Omega.{arith}
 use lib.Dec.{T}
 use lib.Ieee.{binary64}
 use lib.Ieee.Bits.{ofBits-toBits}
 use Rattle.sqrt.specs.Sqrt.{sqrt}
-use Rattle.sqrt.proofs.Cases.{at-nan, at-zero, at-below, at-infinity, no-nan, in-range}
+use Rattle.sqrt.proofs.Cases.{at-nan, root-of-nan, at-zero, at-below, zero-by-zero, at-infinity, no-nan, in-range}
+use Rattle.sqrt.proofs.Units.{digits}
 use Rattle.float_order.specs.Bits.{no-nan-bits}
+use borrow.Author.Needs.{needs}
 use Rattle.sqrt.proofs.sqrt.Statement.{statement}
 use Rattle.sqrt.proofs.sqrt.Tie as tie
-use Rattle.sqrt.proofs.sqrt.Reads as reads
-use Rattle.sqrt.proofs.sqrt.Lts as lts
-use Rattle.sqrt.proofs.root_bits.Reads as root-bits-reads
 
 returns : tie.Need-returns
-returns c = at-nan (c .before .args .x) (c .if1 .taken)
+returns c = rw (at-nan (c .before .args .x) (c .if1 .taken)) (sym root-of-nan)
 
 returns-2 : tie.Need-returns-2
 returns-2 c = at-zero (c .before .before .args .x) (c .if2 .taken)
 
 returns-3 : tie.Need-returns-3
-returns-3 c = at-below (c .before .before .before .args .x) (c .if3 .taken)
+returns-3 c = zero-by-zero ∙ sym (at-below (c .before .before .before .args .x) (c .if3 .taken))
 
 float-to-bits-b : tie.Need-float-to-bits-b
 float-to-bits-b c = no-nan _ (c .before .before .if1 .left)
@@ -27,18 +27,26 @@ float-to-bits-b c = no-nan _ (c .before .before .if1 .left)
 returns-4 : tie.Need-returns-4
 returns-4 c = at-infinity (c .before .before .before .before .args .x) (c .before .before .before .before .good .0 .1) (c .if4 .taken)
 
-root-bits-requires : tie.Need-root-bits-requires
-root-bits-requires c κs =
+root-at-requires : tie.Need-root-at-requires
+root-at-requires c κs =
     let start = c .before .before .before .before in
     in-range (start .args .x) (start .good .0 .1) (c .before .before .before .if1 .left) (c .before .before .if2 .left) (c .before .if3 .left) (c .if4 .left)
 
+add-result : tie.Need-add-result
+add-result c =
+    let r = c .before .root-at .result in
+    omega (arith, c .root54 .ensures, digits (r .big) (r .base) (c .before .root-at .ensures .0) .1)
+
 float-from-bits-result : tie.Need-float-from-bits-result
-float-from-bits-result c = no-nan-bits (c .root-bits .result) (c .root-bits .ensures .1)
+float-from-bits-result c =
+    let r = c .before .before .root-at .result in
+    let s = c .before .before .root-at .ensures .0 in
+    no-nan-bits _ (omega (arith, c .before .root54 .ensures, s .small, digits (r .big) (r .base) s .1))
 
 returns-5 : tie.Need-returns-5
 returns-5 c =
-    let start = c .before .before .before .before .before in
-    c .root-bits .ensures .0 ∙ ap sqrt (ofBits-toBits binary64 (start .args .x) (subst T (sym (start .good .0 .1)) tt))
+    let start = c .before .before .before .before .before .before .before in
+    rw (c .before .root54 .ensures) (sym (c .before .before .root-at .ensures .1) ∙ ap sqrt (ofBits-toBits binary64 (start .args .x) (subst T (sym (start .good .0 .1)) tt)))
 
 pub sqrt-spec : {M : Type 1} → statement M
 sqrt-spec =
@@ -49,6 +57,9 @@ sqrt-spec =
     returns-3
     float-to-bits-b
     returns-4
-    root-bits-requires
+    root-at-requires
+    (λ c κs. search needs)
+    add-result
+    (λ c. search needs)
     float-from-bits-result
     returns-5)
