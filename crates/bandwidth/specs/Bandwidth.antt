@@ -54,6 +54,9 @@ saturatingAdd a b = saturated (a +ℤ b)
 abbrev pub addSize : DataSize → DataSize → DataSize
 addSize a b = bytes (saturatingAdd (a .0) (b .0))
 
--- bits over seconds, each operation rounded
-unfoldable pub perDuration : DataSize → ℕ → Bitrate
-perDuration s d = rate (cond (Ieee.eq (asSecsF64 d) (lit 0)) (lit 0) (div (times (asBytesF64 s) (lit 0x4020_0000_0000_0000)) (asSecsF64 d)))
+-- bits over seconds, each operation rounded, and 0 where the seconds are a zero
+unfoldable pub perSecs : DataSize → Float → Bitrate
+perSecs s secs = rate (cond (Ieee.eq secs (lit 0)) (lit 0) (div (times (asBytesF64 s) (lit 0x4020_0000_0000_0000)) secs))
+
+abbrev pub perDuration : DataSize → ℕ → Bitrate
+perDuration s d = perSecs s (asSecsF64 d)

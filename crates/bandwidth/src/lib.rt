@@ -97,15 +97,21 @@ impl DataSize {
         DataSize(saturating_add(self.0, other.0))
     }
 
-    // The rate that moves the size in a duration of so many ns, and 0 where that is 0.
+    // The rate that moves the size in so many seconds, and 0 where those are a zero.
+    pub fn per_secs(self, secs: f64) -> Bitrate
+        ensures { λ r. ⌜ r ≡ B.perSecs self secs ⌝ }
+    {
+        let bytes = self.as_bytes_f64();
+        if secs == 0.0 {
+            return Bitrate::ZERO;
+        }
+        Bitrate((bytes * 8.0) / secs)
+    }
+
+    // The rate that moves the size in a duration of so many ns.
     pub fn div(self, duration: u64) -> Bitrate
         ensures { λ r. ⌜ r ≡ B.perDuration self duration ⌝ }
     {
-        let bytes = self.as_bytes_f64();
-        let s = seconds::as_secs_f64(duration);
-        if s == 0.0 {
-            return Bitrate::ZERO;
-        }
-        Bitrate((bytes * 8.0) / s)
+        self.per_secs(seconds::as_secs_f64(duration))
     }
 }
