@@ -3,7 +3,7 @@ use Rattle.time.proofs.Timestamp.add_duration.Statement.{statement}
 use Rattle.time.proofs.Timestamp.add_duration.Tie as tie
 
 returns : tie.Need-returns
-returns c = simp (← c .add .ensures, ← c .before .from .ensures)
+returns c = cc
 
 pub add-duration-spec : {M : Type 1} → statement M
 add-duration-spec = tie.close (tie.spec (λ c κs. search needs) (λ c κs. search needs) returns)

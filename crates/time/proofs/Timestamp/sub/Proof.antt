@@ -5,7 +5,7 @@ use Rattle.time.proofs.Timestamp.sub.Tie as tie
 
 returns : tie.Need-returns
 unfolding subDelta
-returns c = simp (← c .add .ensures, ← c .before .neg .ensures)
+returns c = cc
 
 pub sub-spec : {M : Type 1} → statement M
 sub-spec = tie.close (tie.spec (λ c κs. search needs) (λ c κs. search needs) returns)
