@@ -44,10 +44,19 @@ least = negsuc (2 ^ 63 - 1)
 abbrev pub most : ℤ
 most = pos (2 ^ 63 - 1)
 
--- the sum, or the end of i64 that it is past
-unfoldable pub addSize : DataSize → DataSize → DataSize
-addSize a b = let s = a .0 +ℤ b .0 in bytes (cond (ltZ most s) most (cond (ltZ s least) least s))
+-- the number, or the end of i64 that it is past
+unfoldable pub saturated : ℤ → ℤ
+saturated z = cond (ltZ most z) most (cond (ltZ z least) least z)
 
--- bits over seconds, each operation rounded
-unfoldable pub perDuration : DataSize → ℕ → Bitrate
-perDuration s d = rate (cond (Ieee.eq (asSecsF64 d) (lit 0)) (lit 0) (div (times (asBytesF64 s) (lit 0x4020_0000_0000_0000)) (asSecsF64 d)))
+abbrev pub saturatingAdd : ℤ → ℤ → ℤ
+saturatingAdd a b = saturated (a +ℤ b)
+
+abbrev pub addSize : DataSize → DataSize → DataSize
+addSize a b = bytes (saturatingAdd (a .0) (b .0))
+
+-- bits over seconds, each operation rounded, and 0 where the seconds are a zero
+unfoldable pub perSecs : DataSize → Float → Bitrate
+perSecs s secs = rate (cond (Ieee.eq secs (lit 0)) (lit 0) (div (times (asBytesF64 s) (lit 0x4020_0000_0000_0000)) secs))
+
+abbrev pub perDuration : DataSize → ℕ → Bitrate
+perDuration s d = perSecs s (asSecsF64 d)

@@ -14,6 +14,22 @@ pub enum OptionBitrate {
     Some(Bitrate),
 }
 
+// Rust's `i64::saturating_add`.
+fn saturating_add(a: i64, b: i64) -> i64
+    ensures { λ r. ⌜ r ≡ B.saturatingAdd a b ⌝ }
+{
+    if a >= 0 {
+        if b > i64::MAX - a {
+            return i64::MAX;
+        }
+        return a + b;
+    }
+    if b < i64::MIN - a {
+        return i64::MIN;
+    }
+    a + b
+}
+
 impl Bitrate {
     pub const ZERO: Bitrate = Bitrate(0.0);
 
@@ -68,39 +84,34 @@ impl DataSize {
         std::num::nearest_i64_to_f64(self.0)
     }
 
-    pub fn less(self, other: DataSize) -> bool
+    pub fn lt(self, other: DataSize) -> bool
         ensures { λ r. ⌜ r ≡ B.less self other ⌝ }
     {
         self.0 < other.0
     }
 
-    // The sum; past an end of i64, where the Rust overflows, that end.
+    // Past an end of i64, where the Rust overflows, the sum is that end.
     pub fn add(self, other: DataSize) -> Self
         ensures { λ r. ⌜ r ≡ B.addSize self other ⌝ }
     {
-        let a = self.0;
-        let b = other.0;
-        if a >= 0 {
-            if b > i64::MAX - a {
-                return DataSize(i64::MAX);
-            }
-            return DataSize(a + b);
-        }
-        if b < i64::MIN - a {
-            return DataSize(i64::MIN);
-        }
-        DataSize(a + b)
+        DataSize(saturating_add(self.0, other.0))
     }
 
-    // The rate that moves the size in a duration of so many ns, and 0 where that is 0.
+    // The rate that moves the size in so many seconds, and 0 where those are a zero.
+    pub fn per_secs(self, secs: f64) -> Bitrate
+        ensures { λ r. ⌜ r ≡ B.perSecs self secs ⌝ }
+    {
+        let bytes = self.as_bytes_f64();
+        if secs == 0.0 {
+            return Bitrate::ZERO;
+        }
+        Bitrate((bytes * 8.0) / secs)
+    }
+
+    // The rate that moves the size in a duration of so many ns.
     pub fn div(self, duration: u64) -> Bitrate
         ensures { λ r. ⌜ r ≡ B.perDuration self duration ⌝ }
     {
-        let bytes = self.as_bytes_f64();
-        let s = seconds::as_secs_f64(duration);
-        if s == 0.0 {
-            return Bitrate::ZERO;
-        }
-        Bitrate((bytes * 8.0) / s)
+        self.per_secs(seconds::as_secs_f64(duration))
     }
 }

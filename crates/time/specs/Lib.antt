@@ -1,1 +1,2 @@
 pub mod Time
+pub mod Laws

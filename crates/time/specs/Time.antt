@@ -1,11 +1,9 @@
 -- src/bwe/time.rs: what each operation on instants and lengths of time gives. Numbers are ns.
-use Prim.Native.Nat.{ℕ, suc, _+_, _-_, _*_, _/_, _^_, min}
+use Prim.Native.Nat.{ℕ, _+_, _-_, _*_, _/_, _^_, min}
 use mathlib.Core.Bool.{Bool, true, false, cond}
 use lib.Dec.{leb, ltb, eqb}
-use lib.IntN.{ℤ, pos, negsuc}
 use lib.Ieee as Ieee
 use lib.Ieee.{Float, inf}
-use Rattle.float_order.specs.Binary64.{mul, div as quotient, lit}
 use Rattle.seconds.specs.Seconds as Seconds
 use Rattle.bandwidth.specs.Bandwidth as Bandwidth
 use Rattle.bandwidth.specs.declared.Bitrate.{Bitrate}
@@ -61,28 +59,23 @@ limitedInstant DistantPast = DistantPast
 limitedInstant (Exact t) = exact t
 limitedInstant DistantFuture = DistantFuture
 
--- ---- lengths from whole seconds and ms
-abbrev pub fromUnits : ℕ → ℤ → TimeDelta
-fromUnits unit (pos n) = positive (n * unit)
-fromUnits unit (negsuc n) = negative (suc n * unit)
-
-unfoldable pub fromSecs : ℤ → TimeDelta
-fromSecs n = fromUnits (10 ^ 9) n
-
-unfoldable pub fromMillis : ℤ → TimeDelta
-fromMillis n = fromUnits (10 ^ 6) n
-
 -- ---- the order: each length has a place, and negative zero is just below zero
+unfoldable pub placeLimited : TimeDelta → ℕ
+placeLimited NegativeInfinity = 0
+placeLimited (Negative d) = limit + 1 - d
+placeLimited (Positive d) = limit + 2 + d
+placeLimited PositiveInfinity = 2 * limit + 3
+
 unfoldable pub place : TimeDelta → ℕ
-place NegativeInfinity = 0
-place (Negative d) = cond (leb d limit) (limit + 1 - d) 0
-place (Positive d) = cond (leb d limit) (limit + 2 + d) (2 * limit + 3)
-place PositiveInfinity = 2 * limit + 3
+place a = placeLimited (limited a)
+
+unfoldable pub placeLimitedInstant : Timestamp → ℕ
+placeLimitedInstant DistantPast = 0
+placeLimitedInstant (Exact t) = t + 1
+placeLimitedInstant DistantFuture = limit + 2
 
 unfoldable pub placeInstant : Timestamp → ℕ
-placeInstant DistantPast = 0
-placeInstant (Exact t) = cond (leb t limit) (t + 1) (limit + 2)
-placeInstant DistantFuture = limit + 2
+placeInstant a = placeLimitedInstant (limitedInstant a)
 
 unfoldable pub order : ℕ → ℕ → Ordering
 order a b = cond (ltb a b) Less (cond (ltb b a) Greater Equal)
@@ -102,6 +95,15 @@ le a b = leb (place a) (place b)
 abbrev pub cmpInstant : Timestamp → Timestamp → Ordering
 cmpInstant a b = order (placeInstant a) (placeInstant b)
 
+abbrev pub eqInstant : Timestamp → Timestamp → Bool
+eqInstant a b = eqb (placeInstant a) (placeInstant b)
+
+abbrev pub ltInstant : Timestamp → Timestamp → Bool
+ltInstant a b = ltb (placeInstant a) (placeInstant b)
+
+abbrev pub leInstant : Timestamp → Timestamp → Bool
+leInstant a b = leb (placeInstant a) (placeInstant b)
+
 -- ---- sums and differences
 unfoldable pub neg : TimeDelta → TimeDelta
 neg NegativeInfinity = PositiveInfinity
@@ -113,10 +115,6 @@ neg PositiveInfinity = NegativeInfinity
 unfoldable pub difference : ℕ → ℕ → TimeDelta
 difference a b = cond (ltb a b) (Negative (b - a)) (Positive (a - b))
 
--- a + b, and the limit + 1 where that is above the limit
-unfoldable pub sum : ℕ → ℕ → ℕ
-sum a b = cond (leb (a + b) limit) (a + b) (limit + 1)
-
 unfoldable pub addLimited : TimeDelta → TimeDelta → TimeDelta
 addLimited PositiveInfinity b = PositiveInfinity
 addLimited NegativeInfinity NegativeInfinity = NegativeInfinity
@@ -124,12 +122,12 @@ addLimited NegativeInfinity (Negative d) = NegativeInfinity
 addLimited NegativeInfinity (Positive d) = NegativeInfinity
 addLimited NegativeInfinity PositiveInfinity = PositiveInfinity
 addLimited (Negative c) NegativeInfinity = NegativeInfinity
-addLimited (Negative c) (Negative d) = negative (sum c d)
+addLimited (Negative c) (Negative d) = negative (c + d)
 addLimited (Negative c) (Positive d) = difference d c
 addLimited (Negative c) PositiveInfinity = PositiveInfinity
 addLimited (Positive c) NegativeInfinity = NegativeInfinity
 addLimited (Positive c) (Negative d) = difference c d
-addLimited (Positive c) (Positive d) = positive (sum c d)
+addLimited (Positive c) (Positive d) = positive (c + d)
 addLimited (Positive c) PositiveInfinity = PositiveInfinity
 
 unfoldable pub add : TimeDelta → TimeDelta → TimeDelta
@@ -146,7 +144,7 @@ addLimitedDelta DistantPast (Negative d) = DistantPast
 addLimitedDelta DistantPast (Positive d) = DistantPast
 addLimitedDelta (Exact t) NegativeInfinity = DistantPast
 addLimitedDelta (Exact t) (Negative d) = cond (ltb t d) DistantPast (Exact (t - d))
-addLimitedDelta (Exact t) (Positive d) = exact (sum t d)
+addLimitedDelta (Exact t) (Positive d) = exact (t + d)
 addLimitedDelta DistantFuture NegativeInfinity = DistantFuture
 addLimitedDelta DistantFuture (Negative d) = DistantFuture
 addLimitedDelta DistantFuture (Positive d) = DistantFuture
@@ -170,13 +168,10 @@ sinceLimited (Exact a) DistantFuture = NegativeInfinity
 unfoldable pub since : Timestamp → Timestamp → TimeDelta
 since a b = sinceLimited (limitedInstant a) (limitedInstant b)
 
-abbrev pub exactly : Timestamp → Bool
-exactly DistantPast = false
-exactly (Exact t) = leb t limit
-exactly DistantFuture = false
-
 abbrev pub isExact : Timestamp → Bool
-isExact t = exactly t
+isExact DistantPast = false
+isExact (Exact t) = leb t limit
+isExact DistantFuture = false
 
 -- ---- division, seconds, rates
 -- a finite length divided by 0 is the infinity of its sign
@@ -198,8 +193,5 @@ secsLimited PositiveInfinity = inf false
 unfoldable pub asSecsF64 : TimeDelta → Float
 asSecsF64 a = secsLimited (limited a)
 
--- bits over seconds
-unfoldable pub rate : DataSize → TimeDelta → Bitrate
-rate size length =
-    Bandwidth.rate
-    (cond (Ieee.eq (asSecsF64 length) (lit 0)) (lit 0) (quotient (mul (Bandwidth.asBytesF64 size) (lit 0x4020_0000_0000_0000)) (asSecsF64 length)))
+abbrev pub rate : DataSize → TimeDelta → Bitrate
+rate size length = Bandwidth.perSecs size (asSecsF64 length)

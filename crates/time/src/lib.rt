@@ -1,8 +1,6 @@
 // src/bwe/time.rs: instants and lengths of time with their infinities. An instant and a duration are whole numbers of ns.
 // A finite length above MAX, given or computed, is the infinity of its sign; such an instant is `DistantFuture`, one below 0 `DistantPast`.
 ghost use mathlib.Core.Path.{_≡_};
-ghost use Prim.Native.Nat.{_≤_};
-ghost use lib.IntN.{natAbs};
 ghost use Rattle.time.specs.Time as Time;
 use bandwidth::Bitrate;
 use bandwidth::DataSize;
@@ -104,29 +102,6 @@ fn difference(a: u64, b: u64) -> TimeDelta
     TimeDelta::Positive(a - b)
 }
 
-// a + b, and MAX + 1 where that is above MAX.
-fn sum(a: u64, b: u64) -> u64
-    ensures { λ r. ⌜ r ≡ Time.sum a b ⌝ }
-{
-    if a <= MAX {
-        if b <= MAX {
-            if a + b <= MAX {
-                return a + b;
-            }
-        }
-    }
-    MAX + 1
-}
-
-fn magnitude(n: i64) -> u64
-    ensures { λ r. ⌜ r ≡ natAbs n ⌝ }
-{
-    if n >= 0 {
-        return n as u64;
-    }
-    ((-(n + 1)) as u64) + 1
-}
-
 impl TimeDelta {
     pub const ZERO: TimeDelta = TimeDelta::Positive(0);
 
@@ -150,34 +125,6 @@ impl TimeDelta {
         TimeDelta::NegativeInfinity
     }
 
-    pub fn from_secs(secs: i64) -> Self
-        ensures { λ r. ⌜ r ≡ Time.fromSecs secs ⌝ }
-    {
-        let m = magnitude(secs);
-        let mut ns = MAX + 1;
-        if m <= 4_000_000_000 {
-            ns = m * 1_000_000_000;
-        }
-        if secs >= 0 {
-            return TimeDelta::from(ns);
-        }
-        TimeDelta::minus(ns)
-    }
-
-    pub fn from_millis(millis: i64) -> Self
-        ensures { λ r. ⌜ r ≡ Time.fromMillis millis ⌝ }
-    {
-        let m = magnitude(millis);
-        let mut ns = MAX + 1;
-        if m <= 4_000_000_000_000 {
-            ns = m * 1_000_000;
-        }
-        if millis >= 0 {
-            return TimeDelta::from(ns);
-        }
-        TimeDelta::minus(ns)
-    }
-
     // The limits above, put to a length that was given.
     fn limited(self) -> Self
         ensures { λ r. ⌜ r ≡ Time.limited self ⌝ }
@@ -194,20 +141,11 @@ impl TimeDelta {
     fn place(self) -> u64
         ensures { λ r. ⌜ r ≡ Time.place self ⌝ }
     {
-        match self {
+        let this = self.limited();
+        match this {
             TimeDelta::NegativeInfinity => 0,
-            TimeDelta::Negative(d) => {
-                if d <= MAX {
-                    return MAX + 1 - d;
-                }
-                0
-            }
-            TimeDelta::Positive(d) => {
-                if d <= MAX {
-                    return MAX + 2 + d;
-                }
-                2 * MAX + 3
-            }
+            TimeDelta::Negative(d) => MAX + 1 - d,
+            TimeDelta::Positive(d) => MAX + 2 + d,
             TimeDelta::PositiveInfinity => 2 * MAX + 3,
         }
     }
@@ -262,14 +200,14 @@ impl TimeDelta {
             },
             TimeDelta::Negative(a) => match that {
                 TimeDelta::NegativeInfinity => TimeDelta::NegativeInfinity,
-                TimeDelta::Negative(b) => TimeDelta::minus(sum(a, b)),
+                TimeDelta::Negative(b) => TimeDelta::minus(a + b),
                 TimeDelta::Positive(b) => difference(b, a),
                 TimeDelta::PositiveInfinity => TimeDelta::PositiveInfinity,
             },
             TimeDelta::Positive(a) => match that {
                 TimeDelta::NegativeInfinity => TimeDelta::NegativeInfinity,
                 TimeDelta::Negative(b) => difference(a, b),
-                TimeDelta::Positive(b) => TimeDelta::from(sum(a, b)),
+                TimeDelta::Positive(b) => TimeDelta::from(a + b),
                 TimeDelta::PositiveInfinity => TimeDelta::PositiveInfinity,
             },
         }
@@ -349,17 +287,14 @@ impl Timestamp {
         }
     }
 
+    // The place of the instant in the order of all instants.
     fn place(self) -> u64
         ensures { λ r. ⌜ r ≡ Time.placeInstant self ⌝ }
     {
-        match self {
+        let this = self.limited();
+        match this {
             Timestamp::DistantPast => 0,
-            Timestamp::Exact(t) => {
-                if t <= MAX {
-                    return t + 1;
-                }
-                MAX + 2
-            }
+            Timestamp::Exact(t) => t + 1,
             Timestamp::DistantFuture => MAX + 2,
         }
     }
@@ -368,6 +303,24 @@ impl Timestamp {
         ensures { λ r. ⌜ r ≡ Time.cmpInstant self other ⌝ }
     {
         order(self.place(), other.place())
+    }
+
+    pub fn eq(self, other: Timestamp) -> bool
+        ensures { λ r. ⌜ r ≡ Time.eqInstant self other ⌝ }
+    {
+        self.place() == other.place()
+    }
+
+    pub fn lt(self, other: Timestamp) -> bool
+        ensures { λ r. ⌜ r ≡ Time.ltInstant self other ⌝ }
+    {
+        self.place() < other.place()
+    }
+
+    pub fn le(self, other: Timestamp) -> bool
+        ensures { λ r. ⌜ r ≡ Time.leInstant self other ⌝ }
+    {
+        self.place() <= other.place()
     }
 
     // The sum with a length.
@@ -395,7 +348,7 @@ impl Timestamp {
             },
             TimeDelta::Positive(d) => match this {
                 Timestamp::DistantPast => Timestamp::DistantPast,
-                Timestamp::Exact(t) => Timestamp::from(sum(t, d)),
+                Timestamp::Exact(t) => Timestamp::from(t + d),
                 Timestamp::DistantFuture => Timestamp::DistantFuture,
             },
         }
@@ -452,10 +405,5 @@ impl Timestamp {
 pub fn rate(size: DataSize, length: TimeDelta) -> Bitrate
     ensures { λ r. ⌜ r ≡ Time.rate size length ⌝ }
 {
-    let bytes = size.as_bytes_f64();
-    let s = length.as_secs_f64();
-    if s == 0.0 {
-        return Bitrate::ZERO;
-    }
-    Bitrate((bytes * 8.0) / s)
+    size.per_secs(length.as_secs_f64())
 }

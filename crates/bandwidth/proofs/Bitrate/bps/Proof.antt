@@ -1,3 +1,4 @@
+-- `bandwidth::Bitrate::bps` meets its contract: the cast is the number, rounded.
 use borrow.Author.Needs.{needs}
 use Rattle.bandwidth.proofs.Bitrate.bps.Statement.{statement}
 use Rattle.bandwidth.proofs.Bitrate.bps.Tie as tie

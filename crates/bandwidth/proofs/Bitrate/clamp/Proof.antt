@@ -1,3 +1,4 @@
+-- `bandwidth::Bitrate::clamp` meets its contract: the clamp of floats.
 use borrow.Author.Needs.{needs}
 use Rattle.bandwidth.specs.Bandwidth.{clamp}
 use Rattle.bandwidth.proofs.Bitrate.clamp.Statement.{statement}

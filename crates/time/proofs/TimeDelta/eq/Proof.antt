@@ -1,0 +1,9 @@
+use borrow.Author.Needs.{needs}
+use Rattle.time.proofs.TimeDelta.eq.Statement.{statement}
+use Rattle.time.proofs.TimeDelta.eq.Tie as tie
+
+returns : tie.Need-returns
+returns c = cc
+
+pub eq-spec : {M : Type 1} → statement M
+eq-spec = tie.close (tie.spec (λ c κs. search needs) (λ c κs. search needs) returns)

@@ -1,0 +1,9 @@
+use borrow.Author.Needs.{needs}
+use Rattle.time.proofs.TimeDelta.lt.Statement.{statement}
+use Rattle.time.proofs.TimeDelta.lt.Tie as tie
+
+returns : tie.Need-returns
+returns c = cc
+
+pub lt-spec : {M : Type 1} → statement M
+lt-spec = tie.close (tie.spec (λ c κs. search needs) (λ c κs. search needs) returns)

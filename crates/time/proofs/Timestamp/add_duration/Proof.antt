@@ -1,0 +1,9 @@
+use borrow.Author.Needs.{needs}
+use Rattle.time.proofs.Timestamp.add_duration.Statement.{statement}
+use Rattle.time.proofs.Timestamp.add_duration.Tie as tie
+
+returns : tie.Need-returns
+returns c = cc
+
+pub add-duration-spec : {M : Type 1} → statement M
+add-duration-spec = tie.close (tie.spec (λ c κs. search needs) (λ c κs. search needs) returns)

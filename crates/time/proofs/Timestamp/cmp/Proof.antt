@@ -1,0 +1,9 @@
+use borrow.Author.Needs.{needs}
+use Rattle.time.proofs.Timestamp.cmp.Statement.{statement}
+use Rattle.time.proofs.Timestamp.cmp.Tie as tie
+
+returns : tie.Need-returns
+returns c = cc
+
+pub cmp-spec : {M : Type 1} → statement M
+cmp-spec = tie.close (tie.spec (λ c κs. search needs) (λ c κs. search needs) (λ c κs. search needs) returns)

@@ -1,0 +1,9 @@
+use borrow.Author.Needs.{needs}
+use Rattle.time.proofs.Timestamp.le.Statement.{statement}
+use Rattle.time.proofs.Timestamp.le.Tie as tie
+
+returns : tie.Need-returns
+returns c = cc
+
+pub le-spec : {M : Type 1} → statement M
+le-spec = tie.close (tie.spec (λ c κs. search needs) (λ c κs. search needs) returns)

@@ -1,0 +1,9 @@
+use borrow.Author.Needs.{needs}
+use Rattle.time.proofs.Timestamp.since_instant.Statement.{statement}
+use Rattle.time.proofs.Timestamp.since_instant.Tie as tie
+
+returns : tie.Need-returns
+returns c = cc
+
+pub since-instant-spec : {M : Type 1} → statement M
+since-instant-spec = tie.close (tie.spec (λ c κs. search needs) (λ c κs. search needs) returns)

@@ -1,0 +1,11 @@
+use Rattle.time.specs.Time.{subDelta}
+use borrow.Author.Needs.{needs}
+use Rattle.time.proofs.Timestamp.sub.Statement.{statement}
+use Rattle.time.proofs.Timestamp.sub.Tie as tie
+
+returns : tie.Need-returns
+unfolding subDelta
+returns c = cc
+
+pub sub-spec : {M : Type 1} → statement M
+sub-spec = tie.close (tie.spec (λ c κs. search needs) (λ c κs. search needs) returns)

@@ -1,0 +1,9 @@
+use borrow.Author.Needs.{needs}
+use Rattle.time.proofs.rate.Statement.{statement}
+use Rattle.time.proofs.rate.Tie as tie
+
+returns : tie.Need-returns
+returns c = cc
+
+pub rate-spec : {M : Type 1} → statement M
+rate-spec = tie.close (tie.spec (λ c κs. search needs) (λ c κs. search needs) returns)
