@@ -1,2 +1,3 @@
 pub mod Magnitude
 pub mod Ceiling
+pub mod Cast
