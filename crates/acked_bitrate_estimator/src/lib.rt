@@ -77,7 +77,7 @@ impl Window {
         }
         OptionSample::Some(
             sum.div(window),
-            sum.less(AckedBitrateEstimator::SMALL_SAMPLE_THRESHOLD),
+            sum.lt(AckedBitrateEstimator::SMALL_SAMPLE_THRESHOLD),
         )
     }
 

@@ -85,7 +85,11 @@ fn latest(last: OptionInstant, instant: u64) -> OptionInstant
 fn rounded(origin: u64, elapsed: u64) -> u64
     ensures { λ r. ⌜ r ≡ Group.rounded origin elapsed ⌝ }
 {
-    time::saturating_add(origin, (elapsed / 1000 + 500) / 1000 * 1_000_000)
+    let ms = (elapsed / 1000 + 500) / 1000;
+    if ms > 18_446_744_073_709 {
+        return 18446744073709551615;
+    }
+    time::saturating_add(origin, ms * 1_000_000)
 }
 
 impl ArrivalGroup {
@@ -153,8 +157,10 @@ impl ArrivalGroup {
         ensures { λ r. ⌜ r ≡ Group.withPacket self «local_send_time» «remote_recv_time» ⌝ }
     {
         let first = self.first;
-        let last_local_send_time = latest(self.last_local_send_time, local_send_time);
-        let last_remote_recv_time = latest(self.last_remote_recv_time, remote_recv_time);
+        let last_send = self.last_local_send_time;
+        let last_remote = self.last_remote_recv_time;
+        let last_local_send_time = latest(last_send, local_send_time);
+        let last_remote_recv_time = latest(last_remote, remote_recv_time);
         match first {
             OptionFirst::None => Self {
                 first: OptionFirst::Some(local_send_time, remote_recv_time),
@@ -265,7 +271,8 @@ impl ArrivalGroupAccumulator {
     pub fn accumulate_packet(self, local_send_time: u64, remote_recv_time: u64) -> Accumulated
         ensures { λ r. ⌜ r ≡ Group.accumulatePacket self «local_send_time» «remote_recv_time» ⌝ }
     {
-        let origin = time::instant_or(self.send_time_origin, local_send_time);
+        let send_time_origin = self.send_time_origin;
+        let origin = time::instant_or(send_time_origin, local_send_time);
         let since = time::checked_duration_since(local_send_time, origin);
         let OptionDuration::Some(elapsed) = since else {
             return Accumulated {
