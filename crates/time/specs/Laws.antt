@@ -1,12 +1,17 @@
 -- Laws of instants and lengths of time: what is within the limits, the order, sums and differences, seconds.
-use Prim.Native.Nat.{ℕ, _+_, _-_, _/_, _≤_, _<_}
+use Prim.Native.Nat.{ℕ, _+_, _-_, _*_, _/_, _%_, _^_, _≤_, _<_}
 use native.Mathlib.Omega.{arith}
 use native.Mathlib.Nat.{div-le-self, le-trans}
 use mathlib.Core.Path.{_≡_, refl, sym, _∙_, ap}
 use mathlib.Core.Bool.{Bool, true, false, not, cond, _&&_, _||_}
 use lib.Dec.{leb, ltb, eqb}
+use lib.IntN.{pos}
 use lib.Ieee as Ieee
+use lib.Ieee.{binary64, ofInt}
 use borrow.Author.Tests.{le-leb, lt-leb, leb-true, leb-false, lt-ltb, le-ltb, ltb-true, ltb-false, eq-eqb, ne-eqb, eqb-true}
+use Rattle.float_order.specs.Casts.{ofInt-in}
+use Rattle.float_order.specs.Interval.{floats}
+use Rattle.float_order.specs.Range.{In, nat, in-closed, add-in, div-in}
 use Rattle.seconds.specs.Seconds as Seconds
 use Rattle.time.specs.declared.Ordering.{Ordering}
 use Rattle.time.specs.declared.Ordering.the-variants.{Less, Equal, Greater}
@@ -321,3 +326,16 @@ seconds-positive d h = rw (limited-within (Positive d) h)
 pub seconds-negative : (d : ℕ) → d ≤ limit → asSecsF64 (Negative d) ≡ Ieee.neg (Seconds.asSecsF64 d)
 unfolding asSecsF64 secsLimited
 seconds-negative d h = rw (limited-within (Negative d) h)
+
+-- from 0 to 4 × 10^9 + 1 seconds, so finite
+pub seconds-in : (d : ℕ) → d ≤ limit → In (nat 0) (nat (4 * 10 ^ 9 + 1)) (asSecsF64 (Positive d))
+unfolding Seconds.asSecsF64
+seconds-in d h =
+    let whole : In (nat 0) (nat (4 * 10 ^ 9)) (ofInt binary64 (pos (d / 10 ^ 9))) =
+      ofInt-in 0 (4 * 10 ^ 9) (d / 10 ^ 9) (omega arith) (omega arith) (unfold floats in tt) in
+    let rest : In (nat 0) (nat (10 ^ 9)) (ofInt binary64 (pos (d % 10 ^ 9))) =
+      ofInt-in 0 (10 ^ 9) (d % 10 ^ 9) (omega arith) (omega arith) (unfold floats in tt) in
+    let unit : In (nat (10 ^ 9)) (nat (10 ^ 9)) (ofInt binary64 (pos (10 ^ 9))) = in-closed (unfold floats in tt) in
+    let part : In (nat 0) (nat 1) (Ieee.div binary64 (ofInt binary64 (pos (d % 10 ^ 9))) (ofInt binary64 (pos (10 ^ 9)))) =
+      div-in rest unit (unfold floats in tt) in
+    rw (seconds-positive d h) (add-in whole part (unfold floats in tt))
