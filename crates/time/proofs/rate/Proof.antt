@@ -1,3 +1,4 @@
+-- `time::rate` meets its contract: the two calls' equations.
 use borrow.Author.Needs.{needs}
 use Rattle.time.proofs.rate.Statement.{statement}
 use Rattle.time.proofs.rate.Tie as tie

@@ -1,3 +1,4 @@
+-- `time::TimeDelta::add` meets its contract: each arm is its clause of the definition, and two limited lengths have a sum that fits.
 use Rattle.time.specs.Time.{add, addLimited}
 use native.Mathlib.Omega.{arith}
 use Rattle.time.specs.Laws.{within}
@@ -7,17 +8,19 @@ use Rattle.time.proofs.TimeDelta.add.Tie as tie
 
 add-minus : tie.Need-add-minus
 add-minus c =
-    omega
-    (arith,
-    rw (c .before .before .before .before .this .given .1) at (within _ (c .before .before .before .before .before .before .before .limited .ensures)),
-    rw (c .before .that .given .1) at (within _ (c .before .before .before .before .before .before .limited2 .ensures)))
+    omega (
+      arith,
+      rw (c .before .before .before .before .this .given .1) at (within _ (c .before .before .before .before .before .before .before .limited .ensures)),
+      rw (c .before .that .given .1) at (within _ (c .before .before .before .before .before .before .limited2 .ensures)),
+    )
 
 add-from : tie.Need-add-from
 add-from c =
-    omega
-    (arith,
-    rw (c .before .before .before .before .this2 .given .1) at (within _ (c .before .before .before .before .before .before .before .limited .ensures)),
-    rw (c .before .that4 .given .1) at (within _ (c .before .before .before .before .before .before .limited2 .ensures)))
+    omega (
+      arith,
+      rw (c .before .before .before .before .this2 .given .1) at (within _ (c .before .before .before .before .before .before .before .limited .ensures)),
+      rw (c .before .that4 .given .1) at (within _ (c .before .before .before .before .before .before .limited2 .ensures)),
+    )
 
 returns : tie.Need-returns
 unfolding add addLimited

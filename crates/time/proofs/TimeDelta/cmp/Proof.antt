@@ -1,3 +1,4 @@
+-- `time::TimeDelta::cmp` meets its contract: the calls' equations.
 use borrow.Author.Needs.{needs}
 use Rattle.time.proofs.TimeDelta.cmp.Statement.{statement}
 use Rattle.time.proofs.TimeDelta.cmp.Tie as tie

@@ -1,3 +1,4 @@
+-- `time::TimeDelta::eq` meets its contract: the calls' equations.
 use borrow.Author.Needs.{needs}
 use Rattle.time.proofs.TimeDelta.eq.Statement.{statement}
 use Rattle.time.proofs.TimeDelta.eq.Tie as tie

@@ -1,3 +1,4 @@
+-- `time::TimeDelta::le` meets its contract: the calls' equations.
 use borrow.Author.Needs.{needs}
 use Rattle.time.proofs.TimeDelta.le.Statement.{statement}
 use Rattle.time.proofs.TimeDelta.le.Tie as tie

@@ -1,3 +1,4 @@
+-- `time::TimeDelta::limited` meets its contract: each arm is its clause of the definition.
 use Rattle.time.specs.Time.{limited}
 use borrow.Author.Needs.{needs}
 use Rattle.time.proofs.TimeDelta.limited.Statement.{statement}

@@ -1,3 +1,4 @@
+-- `time::TimeDelta::lt` meets its contract: the calls' equations.
 use borrow.Author.Needs.{needs}
 use Rattle.time.proofs.TimeDelta.lt.Statement.{statement}
 use Rattle.time.proofs.TimeDelta.lt.Tie as tie

@@ -1,3 +1,4 @@
+-- `time::TimeDelta::neg` meets its contract: each arm is its clause of the definition.
 use Rattle.time.specs.Time.{neg}
 use borrow.Author.Needs.{needs}
 use Rattle.time.proofs.TimeDelta.neg.Statement.{statement}

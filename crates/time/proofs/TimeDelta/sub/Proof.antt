@@ -1,3 +1,4 @@
+-- `time::TimeDelta::sub` meets its contract: the two calls' equations.
 use Rattle.time.specs.Time.{sub}
 use borrow.Author.Needs.{needs}
 use Rattle.time.proofs.TimeDelta.sub.Statement.{statement}

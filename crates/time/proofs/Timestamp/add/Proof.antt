@@ -1,3 +1,4 @@
+-- `time::Timestamp::add` meets its contract: each arm is its clause of the definition, and a limited instant and a limited length have a sum that fits.
 use Rattle.time.specs.Time.{addDelta, addLimitedDelta}
 use borrow.Author.Tests.{le-ltb, lt-ltb}
 use native.Mathlib.Omega.{arith}
@@ -14,10 +15,11 @@ returns c = simp (lt-ltb _ _ (c .if1 .taken), c .before .before .this .given .1,
 
 add-from : tie.Need-add-from
 add-from c =
-    omega
-    (arith,
-    rw (c .before .this2 .given .1) at (within-instant _ (c .before .before .before .before .before .before .before .limited .ensures)),
-    rw (c .before .before .before .before .that2 .given .1) at (within _ (c .before .before .before .before .before .before .limited2 .ensures)))
+    omega (
+      arith,
+      rw (c .before .this2 .given .1) at (within-instant _ (c .before .before .before .before .before .before .before .limited .ensures)),
+      rw (c .before .before .before .before .that2 .given .1) at (within _ (c .before .before .before .before .before .before .limited2 .ensures)),
+    )
 
 returns-2 : tie.Need-returns-2
 unfolding addDelta addLimitedDelta

@@ -1,3 +1,4 @@
+-- `time::Timestamp::cmp` meets its contract: the calls' equations.
 use borrow.Author.Needs.{needs}
 use Rattle.time.proofs.Timestamp.cmp.Statement.{statement}
 use Rattle.time.proofs.Timestamp.cmp.Tie as tie

@@ -1,3 +1,4 @@
+-- `time::Timestamp::eq` meets its contract: the calls' equations.
 use borrow.Author.Needs.{needs}
 use Rattle.time.proofs.Timestamp.eq.Statement.{statement}
 use Rattle.time.proofs.Timestamp.eq.Tie as tie

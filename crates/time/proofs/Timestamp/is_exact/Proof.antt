@@ -1,3 +1,4 @@
+-- `time::Timestamp::is_exact` meets its contract: the arm of an exact instant is its clause of the definition.
 use borrow.Author.Needs.{needs}
 use Rattle.time.proofs.Timestamp.is_exact.Statement.{statement}
 use Rattle.time.proofs.Timestamp.is_exact.Tie as tie

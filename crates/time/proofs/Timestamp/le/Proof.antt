@@ -1,3 +1,4 @@
+-- `time::Timestamp::le` meets its contract: the calls' equations.
 use borrow.Author.Needs.{needs}
 use Rattle.time.proofs.Timestamp.le.Statement.{statement}
 use Rattle.time.proofs.Timestamp.le.Tie as tie

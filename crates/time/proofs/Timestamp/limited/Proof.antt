@@ -1,3 +1,4 @@
+-- `time::Timestamp::limited` meets its contract: each arm is its clause of the definition.
 use Rattle.time.specs.Time.{limitedInstant}
 use borrow.Author.Needs.{needs}
 use Rattle.time.proofs.Timestamp.limited.Statement.{statement}

@@ -1,3 +1,4 @@
+-- `time::Timestamp::lt` meets its contract: the calls' equations.
 use borrow.Author.Needs.{needs}
 use Rattle.time.proofs.Timestamp.lt.Statement.{statement}
 use Rattle.time.proofs.Timestamp.lt.Tie as tie

@@ -1,3 +1,4 @@
+-- `time::Timestamp::since` meets its contract: each arm is its clause of the definition.
 use Rattle.time.specs.Time.{since, sinceLimited}
 use borrow.Author.Needs.{needs}
 use Rattle.time.proofs.Timestamp.since.Statement.{statement}

@@ -1,3 +1,4 @@
+-- `time::Timestamp::since_instant` meets its contract: the two calls' equations.
 use borrow.Author.Needs.{needs}
 use Rattle.time.proofs.Timestamp.since_instant.Statement.{statement}
 use Rattle.time.proofs.Timestamp.since_instant.Tie as tie

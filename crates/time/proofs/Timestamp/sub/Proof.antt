@@ -1,3 +1,4 @@
+-- `time::Timestamp::sub` meets its contract: the two calls' equations.
 use Rattle.time.specs.Time.{subDelta}
 use borrow.Author.Needs.{needs}
 use Rattle.time.proofs.Timestamp.sub.Statement.{statement}

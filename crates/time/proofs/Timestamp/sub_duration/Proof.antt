@@ -1,3 +1,4 @@
+-- `time::Timestamp::sub_duration` meets its contract: the two calls' equations.
 use borrow.Author.Needs.{needs}
 use Rattle.time.proofs.Timestamp.sub_duration.Statement.{statement}
 use Rattle.time.proofs.Timestamp.sub_duration.Tie as tie
