@@ -12,7 +12,7 @@ add-limited-requires c κs = (within-instant _ (c .before .limited .ensures), wi
 
 returns : tie.Need-returns
 unfolding addDelta
-returns c = cc
+returns c = simp (← c .add-limited .ensures, ← c .before .limited2 .ensures, ← c .before .before .limited .ensures)
 
 pub add-spec : {M : Type 1} → statement M
 add-spec = tie.close (tie.spec (λ c κs. search needs) (λ c κs. search needs) add-limited-requires returns)

@@ -6,7 +6,7 @@ use Rattle.time.proofs.Timestamp.since.Tie as tie
 
 returns : tie.Need-returns
 unfolding since
-returns c = cc
+returns c = simp (← c .since-limited .ensures, ← c .before .limited2 .ensures, ← c .before .before .limited .ensures)
 
 pub since-spec : {M : Type 1} → statement M
 since-spec =
