@@ -1,12 +1,17 @@
 -- Laws of instants and lengths of time: what is within the limits, the order, sums and differences, seconds.
-use Prim.Native.Nat.{ℕ, _+_, _-_, _/_, _≤_, _<_}
+use Prim.Native.Nat.{ℕ, _+_, _-_, _*_, _/_, _%_, _^_, _≤_, _<_}
 use native.Mathlib.Omega.{arith}
 use native.Mathlib.Nat.{div-le-self, le-trans}
 use mathlib.Core.Path.{_≡_, refl, sym, _∙_, ap}
 use mathlib.Core.Bool.{Bool, true, false, not, cond, _&&_, _||_}
 use lib.Dec.{leb, ltb, eqb}
+use lib.IntN.{pos}
 use lib.Ieee as Ieee
+use lib.Ieee.{binary64, ofInt}
 use borrow.Author.Tests.{le-leb, lt-leb, leb-true, leb-false, lt-ltb, le-ltb, ltb-true, ltb-false, eq-eqb, ne-eqb, eqb-true}
+use Rattle.float_order.specs.Casts.{ofInt-in}
+use Rattle.float_order.specs.Interval.{floats}
+use Rattle.float_order.specs.Range.{In, nat, in-closed, add-in, div-in}
 use Rattle.seconds.specs.Seconds as Seconds
 use Rattle.time.specs.declared.Ordering.{Ordering}
 use Rattle.time.specs.declared.Ordering.the-variants.{Less, Equal, Greater}
@@ -93,6 +98,13 @@ within-neg (Negative d) = within-positive d
 within-neg (Positive d) = within-negative d
 within-neg PositiveInfinity = tt
 
+pub neg-limited : (a : TimeDelta) → neg (limited a) ≡ neg a
+unfolding neg limited positive negative
+neg-limited NegativeInfinity = refl
+neg-limited (Negative d) = either (λ x. neg x ≡ positive d) (leb d limit) (λ e. refl) (λ e. rw e)
+neg-limited (Positive d) = either (λ x. neg x ≡ negative d) (leb d limit) (λ e. refl) (λ e. rw e)
+neg-limited PositiveInfinity = refl
+
 within-difference : {a b : ℕ} → a ≤ limit → b ≤ limit → Within (difference a b)
 unfolding difference
 within-difference {a} {b} h k = either Within (ltb a b) (λ e. omega arith) (λ e. omega arith)
@@ -168,8 +180,8 @@ unfolding subDelta
 within-sub-delta t d = within-add-delta t (neg d)
 
 -- ---- the order, of lengths and of instants
-three : {P : Type 0} (m n : ℕ) → (m < n → P) → (m ≡ n → P) → (n < m → P) → P
-three {P} m n less same more = go (ltb m n) (ltb n m) refl refl
+pub trichotomy : {P : Type 0} (m n : ℕ) → (m < n → P) → (m ≡ n → P) → (n < m → P) → P
+trichotomy {P} m n less same more = go (ltb m n) (ltb n m) refl refl
   where
     go : (s t : Bool) → ltb m n ≡ s → ltb n m ≡ t → P
     go true t p q = less (ltb-true m n p)
@@ -178,7 +190,7 @@ three {P} m n less same more = go (ltb m n) (ltb n m) refl refl
 
 total : (m n : ℕ) → (leb m n || leb n m) ≡ true
 total m n =
-    three m n (λ h. rw (le-leb m n (omega arith))) (λ h. rw (le-leb m n (omega arith))) (λ h. rw (lt-leb m n h) (le-leb n m (omega arith)))
+    trichotomy m n (λ h. rw (le-leb m n (omega arith))) (λ h. rw (le-leb m n (omega arith))) (λ h. rw (lt-leb m n h) (le-leb n m (omega arith)))
 
 transitive : (k m n : ℕ) → leb k m ≡ true → leb m n ≡ true → leb k n ≡ true
 transitive k m n p q = le-leb k n (le-trans (leb-true k m p) (leb-true m n q))
@@ -188,7 +200,7 @@ antisymmetric m n p q = omega (arith, leb-true m n p, leb-true n m q)
 
 strict : (m n : ℕ) → ltb m n ≡ (leb m n && not (eqb m n))
 strict m n =
-    three
+    trichotomy
     m
     n
     (λ h. rw (lt-ltb m n h, le-leb m n (omega arith), ne-eqb m n (λ e. omega arith)))
@@ -198,7 +210,7 @@ strict m n =
 compared : (m n : ℕ) → order m n ≡ cond (ltb m n) Less (cond (eqb m n) Equal Greater)
 unfolding order
 compared m n =
-    three
+    trichotomy
     m
     n
     (λ h. rw (lt-ltb m n h))
@@ -321,3 +333,16 @@ seconds-positive d h = rw (limited-within (Positive d) h)
 pub seconds-negative : (d : ℕ) → d ≤ limit → asSecsF64 (Negative d) ≡ Ieee.neg (Seconds.asSecsF64 d)
 unfolding asSecsF64 secsLimited
 seconds-negative d h = rw (limited-within (Negative d) h)
+
+-- from 0 to 4 × 10^9 + 1 seconds, so finite
+pub seconds-in : (d : ℕ) → d ≤ limit → In (nat 0) (nat (4 * 10 ^ 9 + 1)) (asSecsF64 (Positive d))
+unfolding Seconds.asSecsF64
+seconds-in d h =
+    let whole : In (nat 0) (nat (4 * 10 ^ 9)) (ofInt binary64 (pos (d / 10 ^ 9))) =
+    ofInt-in 0 (4 * 10 ^ 9) (d / 10 ^ 9) (omega arith) (omega arith) (unfold floats in tt) in
+    let rest : In (nat 0) (nat (10 ^ 9)) (ofInt binary64 (pos (d % 10 ^ 9))) =
+    ofInt-in 0 (10 ^ 9) (d % 10 ^ 9) (omega arith) (omega arith) (unfold floats in tt) in
+    let unit : In (nat (10 ^ 9)) (nat (10 ^ 9)) (ofInt binary64 (pos (10 ^ 9))) = in-closed (unfold floats in tt) in
+    let part : In (nat 0) (nat 1) (Ieee.div binary64 (ofInt binary64 (pos (d % 10 ^ 9))) (ofInt binary64 (pos (10 ^ 9)))) =
+    div-in rest unit (unfold floats in tt) in
+    rw (seconds-positive d h) (add-in whole part (unfold floats in tt))

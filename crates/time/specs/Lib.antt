@@ -1,2 +1,4 @@
 pub mod Time
 pub mod Laws
+pub mod Tables
+mod Rows

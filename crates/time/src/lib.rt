@@ -2,6 +2,7 @@
 // A finite length above MAX, given or computed, is the infinity of its sign; such an instant is `DistantFuture`, one below 0 `DistantPast`.
 ghost use mathlib.Core.Path.{_≡_};
 ghost use Rattle.time.specs.Time as Time;
+ghost use Rattle.time.specs.Laws.{Within, WithinInstant};
 use bandwidth::Bitrate;
 use bandwidth::DataSize;
 
@@ -185,32 +186,38 @@ impl TimeDelta {
         }
     }
 
-    pub fn add(self, rhs: TimeDelta) -> Self
-        ensures { λ r. ⌜ r ≡ Time.add self rhs ⌝ }
+    // The Rust's table of sums, for lengths within the limits.
+    fn add_limited(self, rhs: TimeDelta) -> Self
+        requires { ⌜ Within self × Within rhs ⌝ }
+        ensures { λ r. ⌜ r ≡ Time.addLimited self rhs ⌝ }
     {
-        let this = self.limited();
-        let that = rhs.limited();
-        match this {
+        match self {
             TimeDelta::PositiveInfinity => TimeDelta::PositiveInfinity,
-            TimeDelta::NegativeInfinity => match that {
+            TimeDelta::NegativeInfinity => match rhs {
                 TimeDelta::NegativeInfinity => TimeDelta::NegativeInfinity,
                 TimeDelta::Negative(_) => TimeDelta::NegativeInfinity,
                 TimeDelta::Positive(_) => TimeDelta::NegativeInfinity,
                 TimeDelta::PositiveInfinity => TimeDelta::PositiveInfinity,
             },
-            TimeDelta::Negative(a) => match that {
+            TimeDelta::Negative(a) => match rhs {
                 TimeDelta::NegativeInfinity => TimeDelta::NegativeInfinity,
                 TimeDelta::Negative(b) => TimeDelta::minus(a + b),
                 TimeDelta::Positive(b) => difference(b, a),
                 TimeDelta::PositiveInfinity => TimeDelta::PositiveInfinity,
             },
-            TimeDelta::Positive(a) => match that {
+            TimeDelta::Positive(a) => match rhs {
                 TimeDelta::NegativeInfinity => TimeDelta::NegativeInfinity,
                 TimeDelta::Negative(b) => difference(a, b),
                 TimeDelta::Positive(b) => TimeDelta::from(a + b),
                 TimeDelta::PositiveInfinity => TimeDelta::PositiveInfinity,
             },
         }
+    }
+
+    pub fn add(self, rhs: TimeDelta) -> Self
+        ensures { λ r. ⌜ r ≡ Time.add self rhs ⌝ }
+    {
+        self.limited().add_limited(rhs.limited())
     }
 
     // The Rust's table of differences is that of sums with the opposite length.
@@ -323,20 +330,19 @@ impl Timestamp {
         self.place() <= other.place()
     }
 
-    // The sum with a length.
-    pub fn add(self, rhs: TimeDelta) -> Self
-        ensures { λ r. ⌜ r ≡ Time.addDelta self rhs ⌝ }
+    // The Rust's table of sums with a length, within the limits.
+    fn add_limited(self, rhs: TimeDelta) -> Self
+        requires { ⌜ WithinInstant self × Within rhs ⌝ }
+        ensures { λ r. ⌜ r ≡ Time.addLimitedDelta self rhs ⌝ }
     {
-        let this = self.limited();
-        let that = rhs.limited();
-        match that {
+        match rhs {
             TimeDelta::PositiveInfinity => Timestamp::DistantFuture,
-            TimeDelta::NegativeInfinity => match this {
+            TimeDelta::NegativeInfinity => match self {
                 Timestamp::DistantPast => Timestamp::DistantPast,
                 Timestamp::Exact(_) => Timestamp::DistantPast,
                 Timestamp::DistantFuture => Timestamp::DistantFuture,
             },
-            TimeDelta::Negative(d) => match this {
+            TimeDelta::Negative(d) => match self {
                 Timestamp::DistantPast => Timestamp::DistantPast,
                 Timestamp::Exact(t) => {
                     if t < d {
@@ -346,12 +352,18 @@ impl Timestamp {
                 }
                 Timestamp::DistantFuture => Timestamp::DistantFuture,
             },
-            TimeDelta::Positive(d) => match this {
+            TimeDelta::Positive(d) => match self {
                 Timestamp::DistantPast => Timestamp::DistantPast,
                 Timestamp::Exact(t) => Timestamp::from(t + d),
                 Timestamp::DistantFuture => Timestamp::DistantFuture,
             },
         }
+    }
+
+    pub fn add(self, rhs: TimeDelta) -> Self
+        ensures { λ r. ⌜ r ≡ Time.addDelta self rhs ⌝ }
+    {
+        self.limited().add_limited(rhs.limited())
     }
 
     // The difference with a length: the sum with the opposite one, as the Rust's table has it.
@@ -373,25 +385,30 @@ impl Timestamp {
         self.sub(TimeDelta::from(rhs))
     }
 
-    // The length from another instant to this one.
-    pub fn since(self, rhs: Timestamp) -> TimeDelta
-        ensures { λ r. ⌜ r ≡ Time.since self rhs ⌝ }
+    // The Rust's table of differences, for instants within the limits.
+    fn since_limited(self, rhs: Timestamp) -> TimeDelta
+        ensures { λ r. ⌜ r ≡ Time.sinceLimited self rhs ⌝ }
     {
-        let this = self.limited();
-        let that = rhs.limited();
-        match this {
+        match self {
             Timestamp::DistantFuture => TimeDelta::PositiveInfinity,
-            Timestamp::DistantPast => match that {
+            Timestamp::DistantPast => match rhs {
                 Timestamp::DistantPast => TimeDelta::PositiveInfinity,
                 Timestamp::Exact(_) => TimeDelta::NegativeInfinity,
                 Timestamp::DistantFuture => TimeDelta::NegativeInfinity,
             },
-            Timestamp::Exact(a) => match that {
+            Timestamp::Exact(a) => match rhs {
                 Timestamp::DistantPast => TimeDelta::PositiveInfinity,
                 Timestamp::Exact(b) => difference(a, b),
                 Timestamp::DistantFuture => TimeDelta::NegativeInfinity,
             },
         }
+    }
+
+    // The length from another instant to this one.
+    pub fn since(self, rhs: Timestamp) -> TimeDelta
+        ensures { λ r. ⌜ r ≡ Time.since self rhs ⌝ }
+    {
+        self.limited().since_limited(rhs.limited())
     }
 
     pub fn since_instant(self, rhs: u64) -> TimeDelta

@@ -1,3 +1,4 @@
+-- `time::checked_duration_since` meets its contract: each return is its case of the definition.
 use Rattle.time.specs.Time.{checkedDurationSince}
 use borrow.Author.Tests.{le-ltb, lt-ltb}
 use Rattle.time.proofs.checked_duration_since.Statement.{statement}

@@ -1,3 +1,4 @@
+-- `time::difference` meets its contract: each return is its case of the definition.
 use Rattle.time.specs.Time.{difference}
 use borrow.Author.Tests.{le-ltb, lt-ltb}
 use borrow.Author.Needs.{needs}

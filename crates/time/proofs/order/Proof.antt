@@ -1,3 +1,4 @@
+-- `time::order` meets its contract: each return is its case of the definition.
 use Rattle.time.specs.Time.{order}
 use borrow.Author.Tests.{le-ltb, lt-ltb}
 use Rattle.time.proofs.order.Statement.{statement}

@@ -1,3 +1,4 @@
+-- `time::TimeDelta::as_secs_f64` meets its contract: each arm is its clause of the definition, and 1 / 0 is the infinity.
 use Rattle.time.specs.Time.{asSecsF64, secsLimited}
 use mathlib.Core.Path.{_≡_, refl}
 use mathlib.Core.Bool.{false}

@@ -1,3 +1,4 @@
+-- `time::TimeDelta::div` meets its contract: each return is its case of the definition.
 use Rattle.time.specs.Time.{div, divLimited}
 use borrow.Author.Tests.{eq-eqb, ne-eqb}
 use borrow.Author.Needs.{needs}

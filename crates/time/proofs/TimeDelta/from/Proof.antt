@@ -1,3 +1,4 @@
+-- `time::TimeDelta::from` meets its contract: the test is the definition's.
 use Rattle.time.specs.Time.{positive}
 use borrow.Author.Tests.{le-leb, lt-leb}
 use Rattle.time.proofs.TimeDelta.from.Statement.{statement}

@@ -1,3 +1,4 @@
+-- `time::TimeDelta::minus` meets its contract: the test is the definition's.
 use Rattle.time.specs.Time.{negative}
 use borrow.Author.Tests.{le-leb, lt-leb}
 use Rattle.time.proofs.TimeDelta.minus.Statement.{statement}

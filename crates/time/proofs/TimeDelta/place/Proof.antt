@@ -1,3 +1,4 @@
+-- `time::TimeDelta::place` meets its contract: each arm is its clause of the definition, and a limited length is at most the limit, so nothing wraps.
 use Rattle.time.specs.Time.{place, placeLimited}
 use native.Mathlib.Omega.{arith}
 use Rattle.time.specs.Laws.{within}

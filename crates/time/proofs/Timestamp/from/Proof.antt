@@ -1,3 +1,4 @@
+-- `time::Timestamp::from` meets its contract: the test is the definition's.
 use Rattle.time.specs.Time.{exact}
 use borrow.Author.Tests.{le-leb, lt-leb}
 use Rattle.time.proofs.Timestamp.from.Statement.{statement}

@@ -1,9 +1,10 @@
+-- `time::Timestamp::is_exact` meets its contract: the arm of an exact instant is its clause of the definition.
 use borrow.Author.Needs.{needs}
 use Rattle.time.proofs.Timestamp.is_exact.Statement.{statement}
 use Rattle.time.proofs.Timestamp.is_exact.Tie as tie
 
 returns-2 : tie.Need-returns-2
-returns-2 c = simp (c .before .self .given .1)
+returns-2 c = cc
 
 pub is-exact-spec : {M : Type 1} → statement M
 is-exact-spec =

@@ -1,3 +1,4 @@
+-- `time::Timestamp::place` meets its contract: each arm is its clause of the definition, and a limited instant is at most the limit, so nothing wraps.
 use Rattle.time.specs.Time.{placeInstant, placeLimitedInstant}
 use native.Mathlib.Omega.{arith}
 use Rattle.time.specs.Laws.{within-instant}

@@ -1,3 +1,4 @@
+-- `time::Timestamp::sub` meets its contract: the two calls' equations.
 use Rattle.time.specs.Time.{subDelta}
 use borrow.Author.Needs.{needs}
 use Rattle.time.proofs.Timestamp.sub.Statement.{statement}
@@ -5,7 +6,7 @@ use Rattle.time.proofs.Timestamp.sub.Tie as tie
 
 returns : tie.Need-returns
 unfolding subDelta
-returns c = cc
+returns c = simp (← c .add .ensures, ← c .before .neg .ensures)
 
 pub sub-spec : {M : Type 1} → statement M
 sub-spec = tie.close (tie.spec (λ c κs. search needs) (λ c κs. search needs) returns)
