@@ -38,6 +38,18 @@ abbrev pub instantOr : OptionInstant → ℕ → ℕ
 instantOr Instant.None other = other
 instantOr (Instant.Some t) other = t
 
+abbrev pub durationOr : OptionDuration → ℕ → ℕ
+durationOr Duration.None other = other
+durationOr (Duration.Some d) other = d
+
+abbrev pub durationOrElse : OptionDuration → OptionDuration → OptionDuration
+durationOrElse Duration.None other = other
+durationOrElse (Duration.Some d) other = Duration.Some d
+
+unfoldable pub longest : OptionDuration → ℕ → OptionDuration
+longest Duration.None other = Duration.Some other
+longest (Duration.Some d) other = Duration.Some (cond (ltb d other) other d)
+
 -- ---- the added limits: a finite length above the limit is the infinity of its sign, such an instant `DistantFuture`
 unfoldable pub positive : ℕ → TimeDelta
 positive d = cond (leb d limit) (Positive d) PositiveInfinity

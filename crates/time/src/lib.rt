@@ -81,6 +81,41 @@ pub fn instant_or(instant: OptionInstant, other: u64) -> u64
     }
 }
 
+// The duration, or another where there is none.
+pub fn duration_or(duration: OptionDuration, other: u64) -> u64
+    ensures { λ r. ⌜ r ≡ Time.durationOr duration other ⌝ }
+{
+    match duration {
+        OptionDuration::None => other,
+        OptionDuration::Some(d) => d,
+    }
+}
+
+// The first of two durations that is there.
+pub fn duration_or_else(duration: OptionDuration, other: OptionDuration) -> OptionDuration
+    ensures { λ r. ⌜ r ≡ Time.durationOrElse duration other ⌝ }
+{
+    match duration {
+        OptionDuration::None => other,
+        OptionDuration::Some(d) => OptionDuration::Some(d),
+    }
+}
+
+// The longer of a duration that may be missing and of another.
+pub fn longest(duration: OptionDuration, other: u64) -> OptionDuration
+    ensures { λ r. ⌜ r ≡ Time.longest duration other ⌝ }
+{
+    match duration {
+        OptionDuration::None => OptionDuration::Some(other),
+        OptionDuration::Some(d) => {
+            if d < other {
+                return OptionDuration::Some(other);
+            }
+            OptionDuration::Some(d)
+        }
+    }
+}
+
 fn order(a: u64, b: u64) -> Ordering
     ensures { λ r. ⌜ r ≡ Time.order a b ⌝ }
 {
