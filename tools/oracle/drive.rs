@@ -1,7 +1,10 @@
 //! Runs one operation of one of the Rust's modules, and gives its answers as words. The numbers of the operations are those of the
 //! program `replay`. A float is its bits, with 7ff8000000000000 for every NaN; an instant and a duration are ns.
 use super::acked_bitrate_estimator::AckedBitrateEstimator;
-use super::delay::arrival_group::ArrivalGroupAccumulator;
+use super::delay::arrival_group::{ArrivalGroupAccumulator, InterGroupDelayDelta};
+use super::delay::control::DelayController;
+use super::delay::rate_control::{RateControl, Signal};
+use super::delay::trendline::TrendlineEstimator;
 use super::time::{TimeDelta, Timestamp};
 use super::{AckedPacket, BandwidthUsage};
 use crate::rtp_::{Bitrate, DataSize, TwccSeq};
@@ -65,11 +68,34 @@ fn option(x: Option<f64>) -> (u64, u64) {
     x.map_or((0, 0), |x| (1, bits(x)))
 }
 
+fn rate(b: u64) -> Bitrate {
+    Bitrate::from(f64::from_bits(b))
+}
+
+fn usage(u: BandwidthUsage) -> u64 {
+    match u {
+        BandwidthUsage::Overuse => 0,
+        BandwidthUsage::Normal => 1,
+        BandwidthUsage::Underuse => 2,
+    }
+}
+
+// Hypothesis with the counts of variations and of overuse (at most 2), threshold, trend, sums, and the time of overuse.
+fn trend_words(t: &TrendlineEstimator) -> Answers {
+    let (threshold, trend, accumulated, smoothed, count, overuse) = t.peek();
+    let (n, tag, time) = overuse.map_or((0, 0, 0), |(n, d)| (n, delta_words(d).0 + 1, delta_words(d).1));
+    [usage(t.hypothesis()) | count << 8 | n << 32 | tag << 40, bits(threshold), bits(trend), bits(accumulated), bits(smoothed), time]
+}
+
 /// The modules' states. Each is what the operations so far made of it.
 pub struct States {
     average: MovingAverage,
     acked: AckedBitrateEstimator,
     groups: ArrivalGroupAccumulator,
+    trendline: TrendlineEstimator,
+    rate: RateControl,
+    control: DelayController,
+    packets: Vec<AckedPacket>,
 }
 
 impl States {
@@ -78,6 +104,10 @@ impl States {
             average: MovingAverage::new(0.95),
             acked: AckedBitrateEstimator::new(ns(500_000_000), ns(150_000_000)),
             groups: ArrivalGroupAccumulator::default(),
+            trendline: TrendlineEstimator::new(20),
+            rate: RateControl::new(Bitrate::bps(1_000_000), Bitrate::kbps(40), Bitrate::gbps(10)),
+            control: DelayController::new(Bitrate::bps(1_000_000)),
+            packets: Vec::new(),
         }
     }
 
@@ -86,8 +116,65 @@ impl States {
             1..20 => time(op, i),
             20..30 => self.average(op, i),
             30..40 => self.acked(op, i),
-            _ => self.groups(op, i),
+            40..50 => self.groups(op, i),
+            50..60 => self.trendline(op, i),
+            60..70 => self.rate(op, i),
+            _ => self.control(op, i),
         }
+    }
+
+    // The moment is the group's remote one, as the controller hands it on.
+    fn trendline(&mut self, op: u64, i: [u64; 5]) -> Answers {
+        if op == 50 {
+            self.trendline = TrendlineEstimator::new(20);
+        } else {
+            let v = InterGroupDelayDelta {
+                send_delta: delta(i[0], i[1]),
+                arrival_delta: delta(i[2], i[3]),
+                last_remote_recv_time: at(i[4]),
+            };
+            self.trendline.add_delay_observation(v, at(i[4]));
+        }
+        trend_words(&self.trendline)
+    }
+
+    fn rate(&mut self, op: u64, i: [u64; 5]) -> Answers {
+        match op {
+            60 => self.rate = RateControl::new(rate(i[0]), rate(i[1]), rate(i[2])),
+            61 => {
+                let signal = [Signal::Overuse, Signal::Underuse, Signal::Normal][i[0] as usize];
+                self.rate.update(signal, rate(i[1]), (i[2] == 1).then(|| ns(i[3])), at(i[4]));
+            }
+            _ => self.rate.set_probe_result(rate(i[0]), at(i[1])),
+        }
+        let (state, average, variance, std) = self.rate.peek();
+        let (some, average) = option(average);
+        [bits(self.rate.estimated_bitrate().as_f64()), state, some, average, bits(variance), bits(std)]
+    }
+
+    fn control(&mut self, op: u64, i: [u64; 5]) -> Answers {
+        let option = |tag: u64, b: u64| (tag == 1).then(|| rate(b));
+        match op {
+            70 => self.control = DelayController::new(rate(i[0])),
+            71 => self.packets.push(AckedPacket {
+                seq_no: TwccSeq(0),
+                size: DataSize::bytes(1),
+                local_send_time: at(i[0]),
+                remote_recv_time: at(i[1]),
+                local_recv_time: at(i[2]),
+            }),
+            72 => {
+                let packets = std::mem::take(&mut self.packets);
+                self.control.update(&packets, option(i[0] & 1, i[1]), option(i[0] >> 1, i[2]), at(i[3]));
+            }
+            _ => self.control.handle_timeout(option(i[0], i[1]), at(i[2])),
+        }
+        if op == 71 {
+            return [0; 6];
+        }
+        let (trend, rtt) = self.control.peek();
+        let t = trend_words(trend);
+        [bits(self.control.last_estimate().unwrap().as_f64()), t[0], since_zero(self.control.poll_timeout()), t[1], rtt.0, rtt.1]
     }
 
     fn average(&mut self, op: u64, i: [u64; 5]) -> Answers {

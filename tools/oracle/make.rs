@@ -33,6 +33,10 @@ impl Random {
         self.next() & ((1u64 << s) - 1)
     }
 
+    pub fn pick_ms(&mut self) -> u64 {
+        MS * self.pick(&[0, 5, 10, 24, 25, 26, 100, 199, 200, 201, 1000])
+    }
+
     // n and its neighbours
     pub fn near(&mut self, n: u64) -> u64 {
         (n + self.below(3)).saturating_sub(1)
@@ -52,6 +56,9 @@ pub fn make(module: &str, seed: u64, count: u64) {
             "average" => maker.average(&mut r),
             "acked" => maker.acked(&mut r),
             "groups" => maker.groups(&mut r),
+            "trendline" => maker.trendline(&mut r),
+            "rate" => maker.rate(&mut r),
+            "control" => maker.control(&mut r),
             _ => panic!("no such module"),
         };
         let answers = states.run(op, i);
@@ -104,6 +111,8 @@ struct Maker {
     send: u64,
     remote: u64,
     windows: (u64, u64),
+    queue: u64,
+    left: u64,
 }
 
 impl Maker {
@@ -191,5 +200,112 @@ impl Maker {
             self.remote = remote;
         }
         (41, [send, remote, r.below(100), 0, 0])
+    }
+
+    // Delays that rise, fall and hover, so that every hypothesis is met, with equal and earlier remote times among them.
+    fn trendline(&mut self, r: &mut Random) -> (u64, [u64; 5]) {
+        if r.one_in(2000) {
+            self.remote = r.pick(&[0, 5_000_000_000, 10u64.pow(18) - 10u64.pow(12)]);
+            return (50, [0; 5]);
+        }
+        if r.one_in(60) {
+            self.queue = r.below(5);
+        }
+        let send = 5 * MS + r.below(10 * MS);
+        let arrival = match self.queue {
+            0 => send + r.below(3 * MS),
+            1 => send.saturating_sub(r.below(3 * MS)),
+            2 => send + r.below(40 * MS),
+            3 => send,
+            _ => r.below(60 * MS),
+        };
+        let send = if r.one_in(100) { r.sized(40) } else { send };
+        let tags = (if r.one_in(50) { 1 } else { 2 }, if r.one_in(50) { 1 } else { 2 });
+        self.remote = (self.remote + arrival).min(10u64.pow(18));
+        if r.one_in(40) {
+            self.remote = self.remote.saturating_sub(r.sized(28));
+        }
+        let last = if r.one_in(100) { self.remote.saturating_sub(r.sized(32)) } else { self.remote };
+        (51, [tags.0, send, tags.1, arrival, last])
+    }
+
+    fn rate(&mut self, r: &mut Random) -> (u64, [u64; 5]) {
+        if self.rate == 0.0 || r.one_in(3000) {
+            let start = r.pick(&[40_000.0, 1e6, 1e10, 300_000.0, 5e7]);
+            self.rate = start;
+            self.now = r.pick(&[0, 1_000_000_000, 10u64.pow(18) - 10u64.pow(13)]);
+            return (60, [f64::to_bits(start), f64::to_bits(40_000.0), f64::to_bits(1e10), 0, 0]);
+        }
+        if r.one_in(30) {
+            self.queue = r.below(8);
+        }
+        self.now = (self.now + MS * r.pick(&[0, 1, 5, 10, 25, 25, 25, 50, 100, 101, 200, 201, 999, 1000, 1001, 5000])).min(10u64.pow(18));
+        if r.one_in(50) {
+            self.now = self.now.saturating_sub(MS * r.below(3000));
+        }
+        if r.one_in(200) {
+            let probe = match r.below(3) {
+                0 => r.sized(46) as f64,
+                1 => 0.0,
+                _ => self.rate * 1.5,
+            };
+            return (62, [probe.to_bits(), self.now, 0, 0, 0]);
+        }
+        let signal = match self.queue {
+            0 => 0,
+            1 => r.below(3),
+            2 => 1,
+            _ => 2,
+        };
+        let observed = match r.below(12) {
+            0 => r.sized(46) as f64,
+            1 => r.pick(&[0.8, 40_000.0, 1e10, 1e14, 600_000.0, 660_000.0, 661_000.0, 424_999.0, 425_000.0]),
+            _ => self.rate * (0.8 + r.below(1 << 20) as f64 / (1u64 << 21) as f64),
+        };
+        if r.one_in(5) {
+            self.rate = observed.clamp(1000.0, 1e10);
+        }
+        let rtt = if r.one_in(4) { r.sized(60) } else { { let t = r.pick_ms(); r.near(t) } };
+        (61, [signal, observed.to_bits(), r.below(4).min(1), rtt, self.now])
+    }
+
+    // A controller fed by reports of a few packets over a path with a queue that fills and drains.
+    fn control(&mut self, r: &mut Random) -> (u64, [u64; 5]) {
+        if self.rate == 0.0 || r.one_in(20_000) {
+            self.rate = 1e6;
+            self.send = r.pick(&[0, 1_000_000_000]);
+            self.remote = r.pick(&[0, 7_000_000_000]);
+            return (70, [f64::to_bits(r.pick(&[40_000.0, 1e6, 1e10])), 0, 0, 0, 0]);
+        }
+        if self.left > 0 {
+            self.left -= 1;
+            self.send += r.pick(&[0, 1, 3, 5, 7, 10, 20]) * MS + r.below(MS);
+            if r.one_in(400) {
+                self.queue = r.below(4);
+            }
+            let wait = match self.queue {
+                0 => r.below(2 * MS),
+                1 => 8 * MS + r.below(20 * MS),
+                2 => 0,
+                _ => r.below(30 * MS),
+            };
+            self.remote = self.remote.max(self.send) + wait;
+            let send = if r.one_in(200) { self.send.saturating_sub(r.sized(32)) } else { self.send };
+            return (71, [send, self.remote, self.send + 30 * MS + r.below(60 * MS), 0, 0]);
+        }
+        self.left = if r.one_in(10) { 0 } else { r.below(12) };
+        self.now = self.now.max(self.send / MS * MS) + MS * r.pick(&[0, 1, 5, 25, 50, 51, 100]);
+        if r.one_in(100) {
+            self.now = self.now.saturating_sub(MS * r.below(2000));
+        }
+        let acked = self.rate * (0.5 + r.below(1000) as f64 / 1000.0);
+        if r.one_in(20) {
+            self.rate = (self.rate * r.pick(&[0.5, 0.9, 1.1, 2.0])).clamp(1000.0, 1e10);
+        }
+        if r.one_in(4) {
+            return (73, [r.below(8).min(1), acked.to_bits(), self.now, 0, 0]);
+        }
+        let probe = r.one_in(40) as u64;
+        (72, [r.below(8).min(1) | probe << 1, acked.to_bits(), f64::to_bits(acked * 1.5), self.now, 0])
     }
 }
