@@ -81,6 +81,13 @@ fn latest(last: OptionInstant, instant: u64) -> OptionInstant
     }
 }
 
+// Rust's `Timestamp::from(later) - earlier`.
+fn between(later: u64, earlier: u64) -> TimeDelta
+    ensures { λ r. ⌜ r ≡ Group.between later earlier ⌝ }
+{
+    Timestamp::from(later).since_instant(earlier)
+}
+
 // A send instant to the nearest ms from the origin, halves up.
 fn rounded(origin: u64, elapsed: u64) -> u64
     ensures { λ r. ⌜ r ≡ Group.rounded origin elapsed ⌝ }
@@ -129,15 +136,11 @@ impl ArrivalGroup {
         let OptionDuration::Some(first_send_delta) = since else {
             return Belongs::Skipped;
         };
-        let send_time_delta = Timestamp::from(
-            local_send_time,
-        ).since_instant(self.local_send_time());
+        let send_time_delta = between(local_send_time, self.local_send_time());
         if send_time_delta.eq(TimeDelta::ZERO) {
             return Belongs::Yes;
         }
-        let arrival_time_delta = Timestamp::from(
-            remote_recv_time,
-        ).since_instant(self.remote_recv_time());
+        let arrival_time_delta = between(remote_recv_time, self.remote_recv_time());
         let propagation_delta = arrival_time_delta.sub(send_time_delta);
         let burst = time::saturating_duration_since(remote_recv_time, first_remote_recv_time);
         if propagation_delta.lt(TimeDelta::ZERO)
@@ -199,13 +202,13 @@ impl ArrivalGroup {
     pub fn departure_delta(self, other: ArrivalGroup) -> TimeDelta
         ensures { λ r. ⌜ r ≡ Group.departureDelta self other ⌝ }
     {
-        Timestamp::from(other.local_send_time()).since_instant(self.local_send_time())
+        between(other.local_send_time(), self.local_send_time())
     }
 
     pub fn arrival_delta(self, other: ArrivalGroup) -> TimeDelta
         ensures { λ r. ⌜ r ≡ Group.arrivalDelta self other ⌝ }
     {
-        Timestamp::from(other.remote_recv_time()).since_instant(self.remote_recv_time())
+        between(other.remote_recv_time(), self.remote_recv_time())
     }
 }
 
