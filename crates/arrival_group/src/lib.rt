@@ -99,6 +99,16 @@ fn rounded(origin: u64, elapsed: u64) -> u64
     time::saturating_add(origin, ms * 1_000_000)
 }
 
+// Whether a packet arrives in a burst: it waited less than its group's last, comes at most 5 ms after that one, and its group spans less than 100 ms.
+fn in_burst(send_time_delta: TimeDelta, arrival_time_delta: TimeDelta, span: u64) -> bool
+    ensures { λ r. ⌜ r ≡ Group.inBurst «send_time_delta» «arrival_time_delta» span ⌝ }
+{
+    let propagation_delta = arrival_time_delta.sub(send_time_delta);
+    propagation_delta.lt(TimeDelta::ZERO)
+        & arrival_time_delta.le(TimeDelta::from(BURST_TIME_INTERVAL))
+        & (span < MAX_BURST_DURATION)
+}
+
 impl ArrivalGroup {
     pub fn new() -> Self
         ensures { λ r. ⌜ r ≡ Group.new ⌝ }
@@ -141,12 +151,8 @@ impl ArrivalGroup {
             return Belongs::Yes;
         }
         let arrival_time_delta = between(remote_recv_time, self.remote_recv_time());
-        let propagation_delta = arrival_time_delta.sub(send_time_delta);
-        let burst = time::saturating_duration_since(remote_recv_time, first_remote_recv_time);
-        if propagation_delta.lt(TimeDelta::ZERO)
-            & arrival_time_delta.le(TimeDelta::from(BURST_TIME_INTERVAL))
-            & (burst < MAX_BURST_DURATION)
-        {
+        let span = time::saturating_duration_since(remote_recv_time, first_remote_recv_time);
+        if in_burst(send_time_delta, arrival_time_delta, span) {
             return Belongs::Yes;
         }
         if first_send_delta > SEND_TIME_GROUP_LENGTH {

@@ -1,13 +1,12 @@
-use Rattle.arrival_group.specs.ArrivalGroup.{arrivalDelta}
+-- The length between the groups' remote instants, as defined.
 use borrow.Author.Needs.{needs}
+use Rattle.arrival_group.specs.ArrivalGroup.{arrivalDelta}
 use Rattle.arrival_group.proofs.ArrivalGroup.arrival_delta.Statement.{statement}
 use Rattle.arrival_group.proofs.ArrivalGroup.arrival_delta.Tie as tie
 
 returns : tie.Need-returns
 unfolding arrivalDelta
-returns c = simp (← c .between .ensures, ← c .before .remote-recv-time2 .ensures, ← c .before .before .remote-recv-time .ensures)
+returns c = cc
 
 pub arrival-delta-spec : {M : Type 1} → statement M
-arrival-delta-spec =
-    tie.close
-    (tie.spec (λ c κs. search needs) (λ c κs. search needs) (λ c κs. search needs) returns)
+arrival-delta-spec = tie.close (tie.spec (λ c κs. search needs) (λ c κs. search needs) (λ c κs. search needs) returns)
