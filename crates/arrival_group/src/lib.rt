@@ -142,11 +142,12 @@ impl ArrivalGroup {
         let OptionFirst::Some(first_local_send_time, first_remote_recv_time) = first else {
             return Belongs::Yes;
         };
+        let last_local_send_time = self.local_send_time();
         let since = time::checked_duration_since(local_send_time, first_local_send_time);
         let OptionDuration::Some(first_send_delta) = since else {
             return Belongs::Skipped;
         };
-        let send_time_delta = between(local_send_time, self.local_send_time());
+        let send_time_delta = between(local_send_time, last_local_send_time);
         if send_time_delta.eq(TimeDelta::ZERO) {
             return Belongs::Yes;
         }
