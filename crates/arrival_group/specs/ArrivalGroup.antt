@@ -1,5 +1,5 @@
 -- src/bwe/delay/arrival_group.rs: how packets are grouped by their send times, and the delay between groups. Instants are ns.
-use Prim.Native.Nat.{ℕ, _+_, _*_, _/_}
+use Prim.Native.Nat.{ℕ, _+_, _*_, _/_, max}
 use mathlib.Core.Bool.{Bool, true, false, _&&_, cond}
 use lib.Dec.{ltb}
 use Rattle.time.specs.Time as Time
@@ -75,7 +75,7 @@ belongsToGroup g send remote = belongsAfter (g .first) g send remote
 
 unfoldable pub latest : OptionInstant → ℕ → OptionInstant
 latest Instant.None t = Instant.Some t
-latest (Instant.Some last) t = Instant.Some (cond (ltb last t) t last)
+latest (Instant.Some last) t = Instant.Some (max last t)
 
 abbrev pub firstOr : OptionFirst → ℕ → ℕ → OptionFirst
 firstOr First.None send remote = First.Some send remote

@@ -1,1 +1,3 @@
 pub mod ArrivalGroup
+pub mod Laws
+pub mod Rows

@@ -81,6 +81,13 @@ fn latest(last: OptionInstant, instant: u64) -> OptionInstant
     }
 }
 
+// Rust's `Timestamp::from(later) - earlier`.
+fn between(later: u64, earlier: u64) -> TimeDelta
+    ensures { λ r. ⌜ r ≡ Group.between later earlier ⌝ }
+{
+    Timestamp::from(later).since_instant(earlier)
+}
+
 // A send instant to the nearest ms from the origin, halves up.
 fn rounded(origin: u64, elapsed: u64) -> u64
     ensures { λ r. ⌜ r ≡ Group.rounded origin elapsed ⌝ }
@@ -90,6 +97,16 @@ fn rounded(origin: u64, elapsed: u64) -> u64
         return 18446744073709551615;
     }
     time::saturating_add(origin, ms * 1_000_000)
+}
+
+// Whether a packet arrives in a burst: it waited less than its group's last, comes at most 5 ms after that one, and its group spans less than 100 ms.
+fn in_burst(send_time_delta: TimeDelta, arrival_time_delta: TimeDelta, span: u64) -> bool
+    ensures { λ r. ⌜ r ≡ Group.inBurst «send_time_delta» «arrival_time_delta» span ⌝ }
+{
+    let propagation_delta = arrival_time_delta.sub(send_time_delta);
+    propagation_delta.lt(TimeDelta::ZERO)
+        & arrival_time_delta.le(TimeDelta::from(BURST_TIME_INTERVAL))
+        & (span < MAX_BURST_DURATION)
 }
 
 impl ArrivalGroup {
@@ -125,25 +142,18 @@ impl ArrivalGroup {
         let OptionFirst::Some(first_local_send_time, first_remote_recv_time) = first else {
             return Belongs::Yes;
         };
+        let last_local_send_time = self.local_send_time();
         let since = time::checked_duration_since(local_send_time, first_local_send_time);
         let OptionDuration::Some(first_send_delta) = since else {
             return Belongs::Skipped;
         };
-        let send_time_delta = Timestamp::from(
-            local_send_time,
-        ).since_instant(self.local_send_time());
+        let send_time_delta = between(local_send_time, last_local_send_time);
         if send_time_delta.eq(TimeDelta::ZERO) {
             return Belongs::Yes;
         }
-        let arrival_time_delta = Timestamp::from(
-            remote_recv_time,
-        ).since_instant(self.remote_recv_time());
-        let propagation_delta = arrival_time_delta.sub(send_time_delta);
-        let burst = time::saturating_duration_since(remote_recv_time, first_remote_recv_time);
-        if propagation_delta.lt(TimeDelta::ZERO)
-            & arrival_time_delta.le(TimeDelta::from(BURST_TIME_INTERVAL))
-            & (burst < MAX_BURST_DURATION)
-        {
+        let arrival_time_delta = between(remote_recv_time, self.remote_recv_time());
+        let span = time::saturating_duration_since(remote_recv_time, first_remote_recv_time);
+        if in_burst(send_time_delta, arrival_time_delta, span) {
             return Belongs::Yes;
         }
         if first_send_delta > SEND_TIME_GROUP_LENGTH {
@@ -199,13 +209,13 @@ impl ArrivalGroup {
     pub fn departure_delta(self, other: ArrivalGroup) -> TimeDelta
         ensures { λ r. ⌜ r ≡ Group.departureDelta self other ⌝ }
     {
-        Timestamp::from(other.local_send_time()).since_instant(self.local_send_time())
+        between(other.local_send_time(), self.local_send_time())
     }
 
     pub fn arrival_delta(self, other: ArrivalGroup) -> TimeDelta
         ensures { λ r. ⌜ r ≡ Group.arrivalDelta self other ⌝ }
     {
-        Timestamp::from(other.remote_recv_time()).since_instant(self.remote_recv_time())
+        between(other.remote_recv_time(), self.remote_recv_time())
     }
 }
 
