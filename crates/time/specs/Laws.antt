@@ -2,24 +2,23 @@
 use Prim.Native.Nat.{ℕ, _+_, _-_, _*_, _/_, _%_, _^_, _≤_, _<_}
 use native.Mathlib.Omega.{arith}
 use native.Mathlib.Nat.{div-le-self, le-trans}
-use mathlib.Core.Path.{_≡_, refl, sym, _∙_, ap}
+use mathlib.Core.Path.{_≡_, refl, ap}
 use mathlib.Core.Bool.{Bool, true, false, not, cond, _&&_, _||_}
 use lib.Dec.{leb, ltb, eqb}
 use lib.IntN.{pos}
 use lib.Ieee as Ieee
 use lib.Ieee.{binary64, ofInt}
-use borrow.Author.Tests.{le-leb, lt-leb, leb-true, leb-false, lt-ltb, le-ltb, ltb-true, ltb-false, eq-eqb, ne-eqb, eqb-true}
+use borrow.Author.Tests.{le-leb, lt-leb, leb-true, lt-ltb, le-ltb, ltb-true, ltb-false, eq-eqb, ne-eqb, eqb-true}
 use Rattle.float_order.specs.Casts.{ofInt-in}
 use Rattle.float_order.specs.Interval.{floats}
 use Rattle.float_order.specs.Range.{In, nat, in-closed, add-in, div-in}
 use Rattle.seconds.specs.Seconds as Seconds
-use Rattle.time.specs.declared.Ordering.{Ordering}
 use Rattle.time.specs.declared.Ordering.the-variants.{Less, Equal, Greater}
 use Rattle.time.specs.declared.Timestamp.{Timestamp}
 use Rattle.time.specs.declared.Timestamp.the-variants.{DistantPast, Exact, DistantFuture}
 use Rattle.time.specs.declared.TimeDelta.{TimeDelta}
 use Rattle.time.specs.declared.TimeDelta.the-variants.{NegativeInfinity, Negative, Positive, PositiveInfinity}
-use Rattle.time.specs.Time.{limit, positive, negative, exact, limited, limitedInstant}
+use Rattle.time.specs.Time.{limit, positive, negative, exact, limited, limitedInstant, Within, WithinInstant}
 use Rattle.time.specs.Time.{placeLimited, place, placeLimitedInstant, placeInstant, order}
 use Rattle.time.specs.Time.{cmp, eq, lt, le, cmpInstant, eqInstant, ltInstant, leInstant}
 use Rattle.time.specs.Time.{neg, difference, addLimited, add, sub, addLimitedDelta, addDelta, subDelta, sinceLimited, since, divLimited, div, secsLimited, asSecsF64}
@@ -28,13 +27,7 @@ either : {A : Type 0} (P : A → Type 0) (t : Bool) {x y : A} → (t ≡ true �
 either P true f g = f refl
 either P false f g = g refl
 
--- ---- the limits: a length within them stays as it is, and what is limited is within them
-abbrev pub Within : TimeDelta → Type 0
-Within NegativeInfinity = Unit {0}
-Within (Negative d) = d ≤ limit
-Within (Positive d) = d ≤ limit
-Within PositiveInfinity = Unit {0}
-
+-- ---- the limits: what is limited is within them, and what is within them stays as it is
 pub within-positive : (d : ℕ) → Within (positive d)
 unfolding positive
 within-positive d = either Within (leb d limit) (leb-true d limit) (λ e. tt)
@@ -62,11 +55,6 @@ limited-within PositiveInfinity h = refl
 
 pub limited-limited : (a : TimeDelta) → limited (limited a) ≡ limited a
 limited-limited a = limited-within (limited a) (within-limited a)
-
-abbrev pub WithinInstant : Timestamp → Type 0
-WithinInstant DistantPast = Unit {0}
-WithinInstant (Exact t) = t ≤ limit
-WithinInstant DistantFuture = Unit {0}
 
 pub within-exact : (t : ℕ) → WithinInstant (exact t)
 unfolding exact

@@ -11,9 +11,9 @@ use Rattle.time.specs.declared.Timestamp.{Timestamp}
 use Rattle.time.specs.declared.Timestamp.the-variants.{DistantPast, Exact, DistantFuture}
 use Rattle.time.specs.declared.TimeDelta.{TimeDelta}
 use Rattle.time.specs.declared.TimeDelta.the-variants.{NegativeInfinity, Negative, Positive, PositiveInfinity}
-use Rattle.time.specs.Time.{limit, positive, negative, exact, limited, limitedInstant, placeLimited, place, placeLimitedInstant, placeInstant, order, cmp, cmpInstant}
+use Rattle.time.specs.Time.{limit, Within, WithinInstant, positive, negative, exact, limited, limitedInstant, placeLimited, place, placeLimitedInstant, placeInstant, order, cmp, cmpInstant}
 use Rattle.time.specs.Time.{neg, difference, addLimited, add, sub, addLimitedDelta, addDelta, subDelta}
-use Rattle.time.specs.Laws.{Within, WithinInstant, within-limited, within-limited-instant, limited-within, within-neg, neg-limited, trichotomy}
+use Rattle.time.specs.Laws.{within-limited, within-limited-instant, limited-within, within-neg, neg-limited, trichotomy}
 
 -- ---- the order
 abbrev pub cmpTable : TimeDelta → TimeDelta → Ordering

@@ -1,5 +1,5 @@
 -- src/bwe/time.rs: what each operation on instants and lengths of time gives. Numbers are ns.
-use Prim.Native.Nat.{ℕ, _+_, _-_, _*_, _/_, _^_, min}
+use Prim.Native.Nat.{ℕ, _+_, _-_, _*_, _/_, _^_, _≤_, min}
 use mathlib.Core.Bool.{Bool, true, false, cond}
 use lib.Dec.{leb, ltb, eqb}
 use lib.Ieee as Ieee
@@ -27,30 +27,12 @@ limit = 4 * 10 ^ 18
 unfoldable pub checkedDurationSince : ℕ → ℕ → OptionDuration
 checkedDurationSince later earlier = cond (ltb later earlier) Duration.None (Duration.Some (later - earlier))
 
--- early instants subtract to 0
+-- 0 where the instant is the earlier one
 abbrev pub saturatingDurationSince : ℕ → ℕ → ℕ
 saturatingDurationSince later earlier = later - earlier
 
-unfoldable pub saturatingAdd : ℕ → ℕ → ℕ
-saturatingAdd a b = min (a + b) (2 ^ 64 - 1)
-
-abbrev pub instantOr : OptionInstant → ℕ → ℕ
-instantOr Instant.None other = other
-instantOr (Instant.Some t) other = t
-
-abbrev pub durationOr : OptionDuration → ℕ → ℕ
-durationOr Duration.None other = other
-durationOr (Duration.Some d) other = d
-
-abbrev pub durationOrElse : OptionDuration → OptionDuration → OptionDuration
-durationOrElse Duration.None other = other
-durationOrElse (Duration.Some d) other = Duration.Some d
-
-unfoldable pub longest : OptionDuration → ℕ → OptionDuration
-longest Duration.None other = Duration.Some other
-longest (Duration.Some d) other = Duration.Some (cond (ltb d other) other d)
-
--- ---- the added limits: a finite length above the limit is the infinity of its sign, such an instant `DistantFuture`
+-- ---- the added limits: a finite length above the limit is the infinity of its sign, such an instant `DistantFuture`.
+-- An operation puts them to what it is given first: its table, by a name with `Limited`, is for values within them.
 unfoldable pub positive : ℕ → TimeDelta
 positive d = cond (leb d limit) (Positive d) PositiveInfinity
 
@@ -70,6 +52,17 @@ unfoldable pub limitedInstant : Timestamp → Timestamp
 limitedInstant DistantPast = DistantPast
 limitedInstant (Exact t) = exact t
 limitedInstant DistantFuture = DistantFuture
+
+abbrev pub Within : TimeDelta → Type 0
+Within NegativeInfinity = Unit {0}
+Within (Negative d) = d ≤ limit
+Within (Positive d) = d ≤ limit
+Within PositiveInfinity = Unit {0}
+
+abbrev pub WithinInstant : Timestamp → Type 0
+WithinInstant DistantPast = Unit {0}
+WithinInstant (Exact t) = t ≤ limit
+WithinInstant DistantFuture = Unit {0}
 
 -- ---- the order: each length has a place, and negative zero is just below zero
 unfoldable pub placeLimited : TimeDelta → ℕ

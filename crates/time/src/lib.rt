@@ -2,7 +2,6 @@
 // A finite length above MAX, given or computed, is the infinity of its sign; such an instant is `DistantFuture`, one below 0 `DistantPast`.
 ghost use mathlib.Core.Path.{_≡_};
 ghost use Rattle.time.specs.Time as Time;
-ghost use Rattle.time.specs.Laws.{Within, WithinInstant};
 use bandwidth::Bitrate;
 use bandwidth::DataSize;
 
@@ -223,7 +222,7 @@ impl TimeDelta {
 
     // The Rust's table of sums, for lengths within the limits.
     fn add_limited(self, rhs: TimeDelta) -> Self
-        requires { ⌜ Within self × Within rhs ⌝ }
+        requires { ⌜ Time.Within self × Time.Within rhs ⌝ }
         ensures { λ r. ⌜ r ≡ Time.addLimited self rhs ⌝ }
     {
         match self {
@@ -367,7 +366,7 @@ impl Timestamp {
 
     // The Rust's table of sums with a length, within the limits.
     fn add_limited(self, rhs: TimeDelta) -> Self
-        requires { ⌜ WithinInstant self × Within rhs ⌝ }
+        requires { ⌜ Time.WithinInstant self × Time.Within rhs ⌝ }
         ensures { λ r. ⌜ r ≡ Time.addLimitedDelta self rhs ⌝ }
     {
         match rhs {

@@ -106,13 +106,13 @@ withPoint s x y avgX avgY =
       denominator = F.add (s .denominator) (mul (sub x avgX) (sub x avgX));
     }
 
-unfoldable pub fitFrom : Fit → List Float → List Float → Float → Float → Fit
-fitFrom s [] ys avgX avgY = s
-fitFrom s (x ∷ xs) [] avgX avgY = s
-fitFrom s (x ∷ xs) (y ∷ ys) avgX avgY = fitFrom (withPoint s x y avgX avgY) xs ys avgX avgY
+unfoldable pub sumsFrom : Fit → List Float → List Float → Float → Float → Fit
+sumsFrom s [] ys avgX avgY = s
+sumsFrom s (x ∷ xs) [] avgX avgY = s
+sumsFrom s (x ∷ xs) (y ∷ ys) avgX avgY = sumsFrom (withPoint s x y avgX avgY) xs ys avgX avgY
 
-abbrev pub fit : List Float → List Float → Float → Float → Fit
-fit xs ys avgX avgY = fitFrom (record { numerator = lit 0; denominator = lit 0 }) xs ys avgX avgY
+abbrev pub sums : List Float → List Float → Float → Float → Fit
+sums xs ys avgX avgY = sumsFrom (record { numerator = lit 0; denominator = lit 0 }) xs ys avgX avgY
 
 abbrev pub average : List Float → Float
 average xs = div (total xs) (lit 0x4034_0000_0000_0000)
@@ -122,7 +122,7 @@ abbrev pub slope : Fit → Float → Float
 slope s previous = cond (Ieee.eq (s .denominator) (lit 0)) previous (div (s .numerator) (s .denominator))
 
 unfoldable pub linearFit : List Float → List Float → Float → Float
-linearFit times delays previous = slope (fit times delays (average times) (average delays)) previous
+linearFit times delays previous = slope (sums times delays (average times) (average delays)) previous
 
 -- ---- the sums of delays
 abbrev pub newDelays : Delays

@@ -4,8 +4,6 @@ use Rattle.time.specs.Laws.{within, within-instant}
 use borrow.Author.Needs.{needs}
 use Rattle.time.proofs.Timestamp.add.Statement.{statement}
 use Rattle.time.proofs.Timestamp.add.Tie as tie
-use Rattle.time.proofs.TimeDelta.limited.Reads as TimeDelta-limited-reads
-use Rattle.time.proofs.Timestamp.limited.Reads as Timestamp-limited-reads
 
 add-limited-requires : tie.Need-add-limited-requires
 add-limited-requires c κs = (within-instant _ (c .before .limited .ensures), within _ (c .limited2 .ensures))
