@@ -16,7 +16,18 @@ use Rattle.arrival_group.specs.declared.OptionGroup.{OptionGroup}
 use Rattle.arrival_group.specs.declared.OptionGroup.the-variants as Previous
 use Rattle.arrival_group.specs.declared.ArrivalGroupAccumulator.{ArrivalGroupAccumulator}
 use Rattle.arrival_group.specs.ArrivalGroup.{
-  addAs, addPacket, accumulatePacket, accumulateRounded, accumulateSince, belongsToGroup, firstOr, latest, new, newAccumulator, rounded, withPacket,
+  addAs,
+  addPacket,
+  accumulatePacket,
+  accumulateRounded,
+  accumulateSince,
+  belongsToGroup,
+  firstOr,
+  latest,
+  new,
+  newAccumulator,
+  rounded,
+  withPacket,
 }
 
 -- ---- rounding

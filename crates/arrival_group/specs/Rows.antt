@@ -5,7 +5,22 @@ use mathlib.Core.Bool.{Bool, true, _&&_}
 use mathlib.Core.List.{List, [], _∷_}
 use lib.Dec.{eqb}
 use Rattle.time.specs.Time.{
-  checkedDurationSince, saturatingAdd, since, sinceLimited, limitedInstant, exact, difference, place, placeLimited, limited, positive, negative, add, addLimited, neg, sub,
+  checkedDurationSince,
+  saturatingAdd,
+  since,
+  sinceLimited,
+  limitedInstant,
+  exact,
+  difference,
+  place,
+  placeLimited,
+  limited,
+  positive,
+  negative,
+  add,
+  addLimited,
+  neg,
+  sub,
 }
 use Rattle.time.specs.declared.OptionInstant.the-variants as Instant
 use Rattle.time.specs.declared.TimeDelta.the-variants.{Negative, Positive}
@@ -13,7 +28,17 @@ use Rattle.arrival_group.specs.declared.OptionFirst.the-variants as Firs
 use Rattle.arrival_group.specs.declared.OptionDelta.the-variants as Delta
 use Rattle.arrival_group.specs.declared.Accumulated.{Accumulated}
 use Rattle.arrival_group.specs.ArrivalGroup.{
-  accumulatePacket, accumulateRounded, addPacket, arrivalDelta, belongsToGroup, delta, departureDelta, latest, newAccumulator, rounded, withPacket,
+  accumulatePacket,
+  accumulateRounded,
+  addPacket,
+  arrivalDelta,
+  belongsToGroup,
+  delta,
+  departureDelta,
+  latest,
+  newAccumulator,
+  rounded,
+  withPacket,
 }
 
 abbrev ms : ℕ → ℕ

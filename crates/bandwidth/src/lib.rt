@@ -30,6 +30,13 @@ fn saturating_add(a: i64, b: i64) -> i64
     a + b
 }
 
+// How the path is used, as far as the delay tells (src/bwe/mod.rs).
+pub enum BandwidthUsage {
+    Overuse,
+    Normal,
+    Underuse,
+}
+
 impl Bitrate {
     pub const ZERO: Bitrate = Bitrate(0.0);
 

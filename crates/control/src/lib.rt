@@ -6,13 +6,13 @@ use arrival_group::ArrivalGroupAccumulator;
 use arrival_group::OptionDelta;
 use average::MovingAverage;
 use average::OptionF64;
+use bandwidth::BandwidthUsage;
 use bandwidth::Bitrate;
 use bandwidth::OptionBitrate;
 use rate_control::RateControl;
 use rate_control::Signal;
 use time::OptionDuration;
 use time::OptionInstant;
-use trendline::BandwidthUsage;
 use trendline::TrendlineEstimator;
 
 const UPDATE_INTERVAL: u64 = 25_000_000;
@@ -59,21 +59,35 @@ impl Packets {
             },
             OptionDelta::Some(variation) => Self {
                 arrival_group_accumulator,
-                trendline_estimator: trendline
-                    .add_delay_observation(variation, variation.last_remote_recv_time),
+                trendline_estimator: trendline.add_delay_observation(
+                    variation,
+                    variation.last_remote_recv_time,
+                ),
                 max_rtt,
             },
         }
     }
 
     // A report's packets in the order of receipt, as three lists; what one list has more is left out.
-    fn add_all(self, local_send_times: &[u64], remote_recv_times: &[u64], local_recv_times: &[u64]) -> Self
+    fn add_all(
+        self,
+        local_send_times: &[u64],
+        remote_recv_times: &[u64],
+        local_recv_times: &[u64],
+    ) -> Self
         ensures { λ r. ⌜ r ≡ Control.addAll self (now («local_send_times» .entry)) (now («remote_recv_times» .entry)) (now («local_recv_times» .entry)) ⌝ }
     {
         let mut packets = self;
         let mut i = 0;
-        while (i < local_send_times.len()) & (i < remote_recv_times.len()) & (i < local_recv_times.len()) {
-            packets = packets.add(local_send_times[i], remote_recv_times[i], local_recv_times[i]);
+        while (i < local_send_times.len())
+            & (i < remote_recv_times.len())
+            & (i < local_recv_times.len())
+        {
+            packets = packets.add(
+                local_send_times[i],
+                remote_recv_times[i],
+                local_recv_times[i],
+            );
             i += 1;
         }
         packets
@@ -88,8 +102,11 @@ impl DelayController {
     {
         let arrival_group_accumulator = ArrivalGroupAccumulator::new();
         let trendline_estimator = TrendlineEstimator::new();
-        let rate_control =
-            RateControl::new(initial_bitrate, Bitrate::MIN_ESTIMATE, Bitrate::MAX_ESTIMATE);
+        let rate_control = RateControl::new(
+            initial_bitrate,
+            Bitrate::MIN_ESTIMATE,
+            Bitrate::MAX_ESTIMATE,
+        );
         let smoothed_rtt = MovingAverage::new(Self::RTT_SMOOTHING_FACTOR);
         Self {
             arrival_group_accumulator,
@@ -172,7 +189,12 @@ impl DelayController {
     }
 
     // A probe's result is applied as it is; else the observed rate, where there is one, goes to the rate control.
-    fn update_estimate(self, observed_bitrate: OptionBitrate, probe_bitrate: OptionBitrate, now: u64) -> Self
+    fn update_estimate(
+        self,
+        observed_bitrate: OptionBitrate,
+        probe_bitrate: OptionBitrate,
+        now: u64,
+    ) -> Self
         ensures { λ r. ⌜ r ≡ Control.updateEstimate self «observed_bitrate» «probe_bitrate» now ⌝ }
     {
         let rate_control = self.rate_control;
@@ -185,7 +207,10 @@ impl DelayController {
         };
         let signal = Signal::from(self.hypothesis());
         let rtt = self.get_smoothed_rtt();
-        self.with_rate(rate_control.update(signal, observed, rtt, now), next_timeout)
+        self.with_rate(
+            rate_control.update(signal, observed, rtt, now),
+            next_timeout,
+        )
     }
 
     // Whether the hypothesis is not too old: at most twice the smoothed round trip, and at most 50 ms.
@@ -197,7 +222,11 @@ impl DelayController {
             return false;
         };
         let rtt = time::duration_or(self.get_smoothed_rtt(), MAX_TWCC_GAP);
-        let limit = if rtt < UPDATE_INTERVAL { 2 * rtt } else { 2 * UPDATE_INTERVAL };
+        let limit = if rtt < UPDATE_INTERVAL {
+            2 * rtt
+        } else {
+            2 * UPDATE_INTERVAL
+        };
         time::saturating_duration_since(now, last) <= limit
     }
 
@@ -221,7 +250,8 @@ impl DelayController {
             max_rtt: OptionDuration::None,
         };
         let fed = packets.add_all(local_send_times, remote_recv_times, local_recv_times);
-        self.with_packets(fed, now).update_estimate(acked_bitrate, probe_bitrate, now)
+        self.with_packets(fed, now)
+            .update_estimate(acked_bitrate, probe_bitrate, now)
     }
 
     // A timeout. A hypothesis that is too old waits for the next report.
@@ -233,7 +263,11 @@ impl DelayController {
         }
         let rate_control = self.rate_control;
         let rtt = time::duration_or(self.get_smoothed_rtt(), MAX_TWCC_GAP);
-        let wait = if rtt < UPDATE_INTERVAL { rtt } else { UPDATE_INTERVAL };
+        let wait = if rtt < UPDATE_INTERVAL {
+            rtt
+        } else {
+            UPDATE_INTERVAL
+        };
         self.with_rate(rate_control, time::saturating_add(now, wait))
     }
 }

@@ -21,8 +21,8 @@ use Rattle.time.specs.declared.OptionInstant.{OptionInstant}
 use Rattle.time.specs.declared.OptionInstant.the-variants as Instant
 use Rattle.time.specs.declared.OptionDuration.{OptionDuration}
 use Rattle.time.specs.declared.OptionDuration.the-variants as Duration
-use Rattle.trendline.specs.declared.BandwidthUsage.{BandwidthUsage}
-use Rattle.trendline.specs.declared.BandwidthUsage.the-variants as Usage
+use Rattle.bandwidth.specs.declared.BandwidthUsage.{BandwidthUsage}
+use Rattle.bandwidth.specs.declared.BandwidthUsage.the-variants as Usage
 use Rattle.rate_control.specs.declared.Signal.{Signal}
 use Rattle.rate_control.specs.declared.Signal.the-variants.{Overuse, Underuse, Normal}
 use Rattle.rate_control.specs.declared.State.{State}

@@ -3,11 +3,11 @@ ghost use mathlib.Core.Path.{_≡_};
 ghost use Rattle.rate_control.specs.RateControl as Rate;
 use average::MovingAverage;
 use average::OptionF64;
+use bandwidth::BandwidthUsage;
 use bandwidth::Bitrate;
 use bandwidth::OptionBitrate;
 use time::OptionDuration;
 use time::OptionInstant;
-use trendline::BandwidthUsage;
 
 const DEFAULT_BACKOFF_TIME: u64 = 100_000_000;
 
@@ -123,8 +123,9 @@ impl RateControl {
     pub fn new(start_bitrate: Bitrate, min_bitrate: Bitrate, max_bitrate: Bitrate) -> Self
         ensures { λ r. ⌜ r ≡ Rate.new «start_bitrate» «min_bitrate» «max_bitrate» ⌝ }
     {
-        let averaged_observed_bitrate =
-            MovingAverage::new(Self::OBSERVED_BIT_RATE_SMOOTHING_FACTOR);
+        let averaged_observed_bitrate = MovingAverage::new(
+            Self::OBSERVED_BIT_RATE_SMOOTHING_FACTOR,
+        );
         Self {
             state: State::Increase,
             estimated_bitrate: start_bitrate,
@@ -336,7 +337,13 @@ impl RateControl {
         self.update_estimate(probe_bitrate, now)
     }
 
-    pub fn update(self, signal: Signal, observed_bitrate: Bitrate, rtt: OptionDuration, now: u64) -> Self
+    pub fn update(
+        self,
+        signal: Signal,
+        observed_bitrate: Bitrate,
+        rtt: OptionDuration,
+        now: u64,
+    ) -> Self
         ensures { λ r. ⌜ r ≡ Rate.update self signal «observed_bitrate» rtt now ⌝ }
     {
         let next = self.with_inputs(signal, observed_bitrate, rtt);

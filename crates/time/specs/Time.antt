@@ -31,6 +31,25 @@ checkedDurationSince later earlier = cond (ltb later earlier) Duration.None (Dur
 abbrev pub saturatingDurationSince : ℕ → ℕ → ℕ
 saturatingDurationSince later earlier = later - earlier
 
+unfoldable pub saturatingAdd : ℕ → ℕ → ℕ
+saturatingAdd a b = min (a + b) (2 ^ 64 - 1)
+
+abbrev pub instantOr : OptionInstant → ℕ → ℕ
+instantOr Instant.None other = other
+instantOr (Instant.Some t) other = t
+
+abbrev pub durationOr : OptionDuration → ℕ → ℕ
+durationOr Duration.None other = other
+durationOr (Duration.Some d) other = d
+
+abbrev pub durationOrElse : OptionDuration → OptionDuration → OptionDuration
+durationOrElse Duration.None other = other
+durationOrElse (Duration.Some d) other = Duration.Some d
+
+unfoldable pub longest : OptionDuration → ℕ → OptionDuration
+longest Duration.None other = Duration.Some other
+longest (Duration.Some d) other = Duration.Some (cond (ltb d other) other d)
+
 -- ---- the added limits: a finite length above the limit is the infinity of its sign, such an instant `DistantFuture`.
 -- An operation puts them to what it is given first: its table, by a name with `Limited`, is for values within them.
 unfoldable pub positive : ℕ → TimeDelta

@@ -17,8 +17,8 @@ use Rattle.time.specs.declared.OptionInstant.{OptionInstant}
 use Rattle.time.specs.declared.OptionInstant.the-variants as Instant
 use Rattle.time.specs.declared.TimeDelta.{TimeDelta}
 use Rattle.arrival_group.specs.declared.InterGroupDelayDelta.{InterGroupDelayDelta}
-use Rattle.trendline.specs.declared.BandwidthUsage.{BandwidthUsage}
-use Rattle.trendline.specs.declared.BandwidthUsage.the-variants as Usage
+use Rattle.bandwidth.specs.declared.BandwidthUsage.{BandwidthUsage}
+use Rattle.bandwidth.specs.declared.BandwidthUsage.the-variants as Usage
 use Rattle.trendline.specs.declared.History.{History}
 use Rattle.trendline.specs.declared.Overuse.{Overuse}
 use Rattle.trendline.specs.declared.OptionOveruse.{OptionOveruse}
