@@ -1,6 +1,6 @@
 -- src/bwe/acked_bitrate_estimator.rs: what a packet does to the acknowledged rate, step by step, each float operation rounded once. Times are ns.
-use Prim.Native.Nat.{ℕ, zero, _+_, _-_, _*_, _/_, _%_}
-use mathlib.Core.Bool.{Bool, true, false, _&&_, cond}
+use Prim.Native.Nat.{ℕ, _-_, _*_, _/_, _%_}
+use mathlib.Core.Bool.{Bool, _&&_, cond}
 use lib.Dec.{leb, ltb, eqb}
 use lib.IntN.{pos}
 use lib.Ieee as Ieee
