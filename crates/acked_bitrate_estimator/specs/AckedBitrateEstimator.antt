@@ -1,6 +1,6 @@
 -- src/bwe/acked_bitrate_estimator.rs: what a packet does to the acknowledged rate, step by step, each float operation rounded once. Times are ns.
-use Prim.Native.Nat.{ℕ, zero, _+_, _-_, _*_, _/_, _%_}
-use mathlib.Core.Bool.{Bool, true, false, _&&_, cond}
+use Prim.Native.Nat.{ℕ, _-_, _*_, _/_, _%_}
+use mathlib.Core.Bool.{Bool, _&&_, cond}
 use lib.Dec.{leb, ltb, eqb}
 use lib.IntN.{pos}
 use lib.Ieee as Ieee
@@ -71,7 +71,7 @@ withPacket w size window =
 
 -- ---- the estimate
 -- a small sample below the estimate counts as less certain
-abbrev pub scale : Bool → Float → Float → Float
+unfoldable pub scale : Bool → Float → Float → Float
 scale small estimate value = cond (small && Ieee.lt value estimate) smallSampleUncertainty uncertainty
 
 abbrev pub sampleUncertainty : Bool → Float → Float → Float
@@ -91,7 +91,7 @@ weigh estimate variance value small =
     }
 
 -- ---- the estimator
-unfoldable pub withWindow : AckedBitrateEstimator → Window → ℕ → AckedBitrateEstimator
+abbrev pub withWindow : AckedBitrateEstimator → Window → ℕ → AckedBitrateEstimator
 withWindow a w receiveTime =
     record {
       «initial_window» = a .«initial_window»;
@@ -103,7 +103,7 @@ withWindow a w receiveTime =
       «last_update» = Instant.Some receiveTime;
     }
 
-unfoldable pub withEstimate : AckedBitrateEstimator → Bitrate → Float → AckedBitrateEstimator
+abbrev pub withEstimate : AckedBitrateEstimator → Bitrate → Float → AckedBitrateEstimator
 withEstimate a rate variance =
     record {
       «initial_window» = a .«initial_window»;

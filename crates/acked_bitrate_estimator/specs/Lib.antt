@@ -1,1 +1,4 @@
 pub mod AckedBitrateEstimator
+pub mod Rows
+pub mod Mean
+pub mod Laws

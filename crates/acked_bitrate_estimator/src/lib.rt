@@ -99,14 +99,21 @@ impl Window {
     }
 }
 
+// A small sample below the estimate counts as less certain.
+fn scale(is_small: bool, estimate: f64, sample: f64) -> f64
+    ensures { λ r. ⌜ r ≡ Acked.scale «is_small» estimate sample ⌝ }
+{
+    if is_small & (sample < estimate) {
+        return AckedBitrateEstimator::SMALL_SAMPLE_UNCERTAINTY;
+    }
+    AckedBitrateEstimator::UNCERTAINTY
+}
+
 // A bayesian estimate of the rate: the sample weighs less the further it is from the estimate.
 pub fn weigh(estimate: f64, variance: f64, sample: f64, is_small: bool) -> Weighed
     ensures { λ r. ⌜ r ≡ Acked.weigh estimate variance sample «is_small» ⌝ }
 {
-    let mut scale = AckedBitrateEstimator::UNCERTAINTY;
-    if is_small & (sample < estimate) {
-        scale = AckedBitrateEstimator::SMALL_SAMPLE_UNCERTAINTY;
-    }
+    let scale = scale(is_small, estimate, sample);
     let uncertainty = scale * float::abs(estimate - sample) / estimate;
     let sample_var = uncertainty * uncertainty;
     let pred_var = variance + 5.0;
@@ -208,16 +215,6 @@ impl AckedBitrateEstimator {
         }
     }
 
-    fn current_window(self) -> Window
-        ensures { λ r. ⌜ r ≡ Acked.currentWindow self ⌝ }
-    {
-        let sum = self.sum;
-        Window {
-            sum,
-            elapsed: self.current_window,
-        }
-    }
-
     // The packet joins the window, which gives its sample first where it is full.
     fn filled(self, w: Window, receive_time: u64, packet_size: DataSize) -> Self
         ensures { λ r. ⌜ r ≡ Acked.filled self w «receive_time» «packet_size» ⌝ }
@@ -232,7 +229,11 @@ impl AckedBitrateEstimator {
         ensures { λ r. ⌜ r ≡ Acked.update self «receive_time» «packet_size» ⌝ }
     {
         let last_update = self.last_update;
-        let w = self.current_window();
+        let sum = self.sum;
+        let w = Window {
+            sum,
+            elapsed: self.current_window,
+        };
         match last_update {
             OptionInstant::None => self.filled(w, receive_time, packet_size),
             OptionInstant::Some(last) => {
