@@ -4,9 +4,9 @@ mod ops;
 
 use libc::STDIN_FILENO;
 use libc::STDOUT_FILENO;
+use ops::Answers;
 use ops::Inputs;
 use ops::States;
-use ops::Words;
 use std::num::wrapping_add_u64;
 use std::num::wrapping_add_usize;
 
@@ -35,7 +35,7 @@ fn word(block: &[u8], at: usize, i: usize) -> u64 {
     le_bytes::read_u64(block, wrapping_add_usize(at, i))
 }
 
-fn agrees(block: &[u8], at: usize, answers: Words) -> bool {
+fn agrees(block: &[u8], at: usize, answers: Answers) -> bool {
     let w = answers.w;
     (w[0] == word(block, at, 48))
         & (w[1] == word(block, at, 56))
@@ -105,6 +105,16 @@ fn line(name: &[u8], cases: u64, wrong: u64) {
     io::write_all(STDOUT_FILENO, b"\n");
 }
 
+fn report(c: Counts) {
+    line(b"time", c.cases[0], c.wrong[0]);
+    line(b"average", c.cases[1], c.wrong[1]);
+    line(b"acked_bitrate_estimator", c.cases[2], c.wrong[2]);
+    line(b"arrival_group", c.cases[3], c.wrong[3]);
+    if c.first != 0 {
+        line(b"first", c.first, 0);
+    }
+}
+
 fn main() {
     let counts = Counts {
         cases: [0; 4],
@@ -124,12 +134,6 @@ fn main() {
         }
         done = many(done, &block, n);
     }
-    let c = done.counts;
-    line(b"time", c.cases[0], c.wrong[0]);
-    line(b"average", c.cases[1], c.wrong[1]);
-    line(b"acked_bitrate_estimator", c.cases[2], c.wrong[2]);
-    line(b"arrival_group", c.cases[3], c.wrong[3]);
-    if c.first != 0 {
-        line(b"first", c.first, 0);
-    }
+    let counts = done.counts;
+    report(counts);
 }

@@ -12,7 +12,7 @@ use time::Ordering;
 use time::TimeDelta;
 use time::Timestamp;
 
-pub struct Words {
+pub struct Answers {
     pub w: [u64; 6],
 }
 
@@ -31,17 +31,18 @@ pub struct States {
 
 pub struct Ran {
     pub states: States,
-    pub answers: Words,
+    pub answers: Answers,
 }
 
-fn words(a: u64, b: u64, c: u64, d: u64, e: u64, f: u64) -> Words {
-    Words {
+fn words(a: u64, b: u64, c: u64, d: u64, e: u64, f: u64) -> Answers {
+    Answers {
         w: [a, b, c, d, e, f],
     }
 }
 
-fn number(b: bool) -> u64 {
-    if b { 1 } else { 0 }
+// A bit of a word.
+fn flag(b: bool, bit: u64) -> u64 {
+    if b { bit } else { 0 }
 }
 
 fn delta(tag: u64, n: u64) -> TimeDelta {
@@ -75,7 +76,7 @@ fn delta_ns(d: TimeDelta) -> u64 {
     }
 }
 
-fn delta_words(d: TimeDelta) -> Words {
+fn delta_words(d: TimeDelta) -> Answers {
     words(delta_tag(d), delta_ns(d), 0, 0, 0, 0)
 }
 
@@ -89,7 +90,7 @@ fn stamp(tag: u64, n: u64) -> Timestamp {
     Timestamp::DistantFuture
 }
 
-fn stamp_words(t: Timestamp) -> Words {
+fn stamp_words(t: Timestamp) -> Answers {
     match t {
         Timestamp::DistantPast => words(0, 0, 0, 0, 0, 0),
         Timestamp::Exact(n) => words(1, n, 0, 0, 0, 0),
@@ -109,22 +110,22 @@ fn size(n: u64) -> DataSize {
     DataSize((n % 0x8000_0000_0000_0000) as i64)
 }
 
-fn of_rate(b: Bitrate) -> Words {
+fn of_rate(b: Bitrate) -> Answers {
     words(float_bits::to_bits(b.as_f64()), 0, 0, 0, 0, 0)
 }
 
-fn compare(a: TimeDelta, b: TimeDelta) -> Words {
+fn compare(a: TimeDelta, b: TimeDelta) -> Answers {
     words(
         order_number(a.cmp(b)),
-        number(a.eq(b)),
-        number(a.lt(b)),
-        number(a.le(b)),
+        flag(a.eq(b), 1),
+        flag(a.lt(b), 1),
+        flag(a.le(b), 1),
         0,
         0,
     )
 }
 
-fn stamps(op: u64, s: Timestamp, b: TimeDelta, t: Timestamp, n: u64) -> Words {
+fn stamps(op: u64, s: Timestamp, b: TimeDelta, t: Timestamp, n: u64) -> Answers {
     if op == 6 {
         return stamp_words(s.add(b));
     }
@@ -135,7 +136,7 @@ fn stamps(op: u64, s: Timestamp, b: TimeDelta, t: Timestamp, n: u64) -> Words {
         return delta_words(s.since(t));
     }
     if op == 9 {
-        return words(order_number(s.cmp(t)), number(s.is_exact()), 0, 0, 0, 0);
+        return words(order_number(s.cmp(t)), flag(s.is_exact(), 1), 0, 0, 0, 0);
     }
     if op == 10 {
         return stamp_words(s.add_duration(n));
@@ -146,7 +147,7 @@ fn stamps(op: u64, s: Timestamp, b: TimeDelta, t: Timestamp, n: u64) -> Words {
     delta_words(s.since_instant(n))
 }
 
-fn deltas(op: u64, a: TimeDelta, b: TimeDelta, d: u64, n: u64) -> Words {
+fn deltas(op: u64, a: TimeDelta, b: TimeDelta, d: u64, n: u64) -> Answers {
     if op == 1 {
         return delta_words(a.add(b));
     }
@@ -167,7 +168,14 @@ fn deltas(op: u64, a: TimeDelta, b: TimeDelta, d: u64, n: u64) -> Words {
     }
     if op == 14 {
         let c = TimeDelta::from(n);
-        return words(number(a.eq(c)), number(a.lt(c)), number(a.le(c)), 0, 0, 0);
+        return words(
+            flag(a.eq(c), 1),
+            flag(a.lt(c), 1),
+            flag(a.le(c), 1),
+            0,
+            0,
+            0,
+        );
     }
     if op == 15 {
         return of_rate(size(n).div(d));
@@ -175,10 +183,10 @@ fn deltas(op: u64, a: TimeDelta, b: TimeDelta, d: u64, n: u64) -> Words {
     of_rate(Bitrate::bps(d).mul(float_bits::from_bits(n)))
 }
 
-fn option_tag(x: OptionF64) -> u64 {
+fn is_some(x: OptionF64) -> bool {
     match x {
-        OptionF64::None => 0,
-        OptionF64::Some(_) => 1,
+        OptionF64::None => false,
+        OptionF64::Some(_) => true,
     }
 }
 
@@ -189,14 +197,14 @@ fn option_bits(x: OptionF64) -> u64 {
     }
 }
 
-fn average_words(m: MovingAverage, n: f64, probe: f64) -> Words {
+fn average_words(m: MovingAverage, n: f64, probe: f64) -> Answers {
     let upper = m.upper_range(n);
     let lower = m.lower_range(n);
     words(
-        option_tag(m.get())
-            + option_tag(upper) * 2
-            + number(m.within_std(probe, n)) * 4
-            + number(m.valid()) * 8,
+        flag(is_some(m.get()), 1)
+            | flag(is_some(upper), 2)
+            | flag(m.within_std(probe, n), 4)
+            | flag(m.valid(), 8),
         option_bits(m.get()),
         float_bits::to_bits(m.variance),
         float_bits::to_bits(m.std),
@@ -205,7 +213,7 @@ fn average_words(m: MovingAverage, n: f64, probe: f64) -> Words {
     )
 }
 
-fn acked_words(a: AckedBitrateEstimator) -> Words {
+fn acked_words(a: AckedBitrateEstimator) -> Answers {
     let estimate = a.current_estimate();
     let sum = a.sum;
     let variance = float_bits::to_bits(a.estimate_var);
@@ -226,7 +234,7 @@ fn as_u64(s: DataSize) -> u64 {
     float::as_u64(s.as_bytes_f64())
 }
 
-fn group_words(d: OptionDelta) -> Words {
+fn group_words(d: OptionDelta) -> Answers {
     match d {
         OptionDelta::None => words(0, 0, 0, 0, 0, 0),
         OptionDelta::Some(x) => {
@@ -271,7 +279,7 @@ fn next_groups(op: u64, g: ArrivalGroupAccumulator, i: Inputs) -> Accumulated {
     g.accumulate_packet(i.a, i.b)
 }
 
-fn time_words(op: u64, i: Inputs) -> Words {
+fn time_words(op: u64, i: Inputs) -> Answers {
     if op < 6 {
         return deltas(op, delta(i.a, i.b), delta(i.c, i.d), i.b, i.c);
     }
@@ -328,7 +336,8 @@ impl States {
         let acked = self.acked;
         let done = next_groups(op, self.groups, i);
         let groups = done.accumulator;
-        let answers = group_words(done.delta);
+        let delta = done.delta;
+        let answers = group_words(delta);
         let states = States {
             average,
             acked,

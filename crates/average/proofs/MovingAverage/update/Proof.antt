@@ -1,3 +1,4 @@
+-- `MovingAverage::update`: each arm is the clause of `updateFrom` for its variant.
 use Rattle.average.specs.Average.{update}
 use borrow.Author.Needs.{needs}
 use Rattle.average.proofs.MovingAverage.update.Statement.{statement}

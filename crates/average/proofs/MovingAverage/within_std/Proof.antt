@@ -1,3 +1,4 @@
+-- `MovingAverage::within_std`: each arm is the clause of `within` for its variant.
 use Rattle.average.specs.Average.{withinStd}
 use borrow.Author.Needs.{needs}
 use Rattle.average.proofs.MovingAverage.within_std.Statement.{statement}
