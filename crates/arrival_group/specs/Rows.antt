@@ -1,19 +1,43 @@
--- Rows of document 01, computed from the definitions.
+-- Rows of document 01, and a case that later proofs must not forget, computed from the definitions.
 use Prim.Native.Nat.{ℕ, _*_}
 use mathlib.Core.Path.{_≡_, refl}
 use mathlib.Core.Bool.{Bool, true, _&&_}
 use mathlib.Core.List.{List, [], _∷_}
 use lib.Dec.{eqb}
 use Rattle.time.specs.Time.{
-  checkedDurationSince, saturatingAdd, since, sinceLimited, limitedInstant, exact, difference, place, placeLimited, limited, positive, negative, add, addLimited, neg, sub,
+  checkedDurationSince,
+  saturatingAdd,
+  since,
+  sinceLimited,
+  limitedInstant,
+  exact,
+  difference,
+  place,
+  placeLimited,
+  limited,
+  positive,
+  negative,
+  add,
+  addLimited,
+  neg,
+  sub,
 }
-use Rattle.time.specs.declared.OptionInstant.the-variants as Instant
 use Rattle.time.specs.declared.TimeDelta.the-variants.{Negative, Positive}
 use Rattle.arrival_group.specs.declared.OptionFirst.the-variants as First
 use Rattle.arrival_group.specs.declared.OptionDelta.the-variants as Delta
 use Rattle.arrival_group.specs.declared.Accumulated.{Accumulated}
 use Rattle.arrival_group.specs.ArrivalGroup.{
-  accumulatePacket, accumulateRounded, addPacket, arrivalDelta, belongsToGroup, delta, departureDelta, latest, newAccumulator, rounded, withPacket,
+  accumulatePacket,
+  accumulateRounded,
+  addPacket,
+  arrivalDelta,
+  belongsToGroup,
+  delta,
+  departureDelta,
+  latest,
+  newAccumulator,
+  rounded,
+  withPacket,
 }
 
 abbrev ms : ℕ → ℕ
