@@ -20,7 +20,6 @@ use Rattle.arrival_group.specs.declared.OptionGroup.{OptionGroup}
 use Rattle.arrival_group.specs.declared.OptionGroup.the-variants as Previous
 use Rattle.arrival_group.specs.declared.OptionDelta.{OptionDelta}
 use Rattle.arrival_group.specs.declared.OptionDelta.the-variants as Delta
-use Rattle.arrival_group.specs.declared.InterGroupDelayDelta.{InterGroupDelayDelta}
 use Rattle.arrival_group.specs.declared.ArrivalGroupAccumulator.{ArrivalGroupAccumulator}
 use Rattle.arrival_group.specs.declared.Accumulated.{Accumulated}
 

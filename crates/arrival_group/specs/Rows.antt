@@ -1,4 +1,4 @@
--- Rows of document 01, computed from the definitions.
+-- Rows of document 01, and a case that later proofs must not forget, computed from the definitions.
 use Prim.Native.Nat.{ℕ, _*_}
 use mathlib.Core.Path.{_≡_, refl}
 use mathlib.Core.Bool.{Bool, true, _&&_}
@@ -22,7 +22,6 @@ use Rattle.time.specs.Time.{
   neg,
   sub,
 }
-use Rattle.time.specs.declared.OptionInstant.the-variants as Instant
 use Rattle.time.specs.declared.TimeDelta.the-variants.{Negative, Positive}
 use Rattle.arrival_group.specs.declared.OptionFirst.the-variants as First
 use Rattle.arrival_group.specs.declared.OptionDelta.the-variants as Delta

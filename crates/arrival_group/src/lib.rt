@@ -88,7 +88,7 @@ fn between(later: u64, earlier: u64) -> TimeDelta
     Timestamp::from(later).since_instant(earlier)
 }
 
-// A send instant to the nearest ms from the origin, halves up.
+// A send instant to the nearest ms from the origin, halves up; past the end of u64, that end.
 fn rounded(origin: u64, elapsed: u64) -> u64
     ensures { λ r. ⌜ r ≡ Group.rounded origin elapsed ⌝ }
 {
@@ -99,7 +99,7 @@ fn rounded(origin: u64, elapsed: u64) -> u64
     time::saturating_add(origin, ms * 1_000_000)
 }
 
-// Whether a packet arrives in a burst: it waited less than its group's last, comes at most 5 ms after that one, and its group spans less than 100 ms.
+// Whether a packet arrives in a burst with its group.
 fn in_burst(send_time_delta: TimeDelta, arrival_time_delta: TimeDelta, span: u64) -> bool
     ensures { λ r. ⌜ r ≡ Group.inBurst «send_time_delta» «arrival_time_delta» span ⌝ }
 {

@@ -1,3 +1,4 @@
+-- The three answers of `belongs_to_group` are the three cases of the definition.
 use Rattle.arrival_group.specs.ArrivalGroup.{addPacket}
 use borrow.Author.Needs.{needs}
 use Rattle.arrival_group.proofs.ArrivalGroup.add_packet.Statement.{statement}

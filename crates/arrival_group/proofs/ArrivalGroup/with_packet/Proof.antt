@@ -1,3 +1,4 @@
+-- The first instants stay where there are some, and both last ones are the latest.
 use Rattle.arrival_group.specs.ArrivalGroup.{withPacket}
 use borrow.Author.Needs.{needs}
 use Rattle.arrival_group.proofs.ArrivalGroup.with_packet.Statement.{statement}

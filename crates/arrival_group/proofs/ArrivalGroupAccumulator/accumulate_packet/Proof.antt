@@ -1,3 +1,4 @@
+-- A packet from before the origin leaves everything; any other is rounded and added.
 use Rattle.arrival_group.specs.ArrivalGroup.{accumulatePacket}
 use borrow.Author.Needs.{needs}
 use Rattle.arrival_group.proofs.ArrivalGroupAccumulator.accumulate_packet.Statement.{

@@ -1,3 +1,4 @@
+-- The test of the code is the definition's, and each branch builds the record that it defines.
 use Rattle.arrival_group.specs.ArrivalGroup.{accumulateRounded}
 use borrow.Author.Needs.{needs}
 use Rattle.arrival_group.proofs.ArrivalGroupAccumulator.accumulate_rounded.Statement.{

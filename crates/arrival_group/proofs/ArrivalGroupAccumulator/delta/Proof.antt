@@ -1,3 +1,4 @@
+-- There is a delta where there is a previous group.
 use Rattle.arrival_group.specs.ArrivalGroup.{delta}
 use borrow.Author.Needs.{needs}
 use Rattle.arrival_group.proofs.ArrivalGroupAccumulator.delta.Statement.{statement}
