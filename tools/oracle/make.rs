@@ -113,6 +113,7 @@ struct Maker {
     windows: (u64, u64),
     queue: u64,
     left: u64,
+    started: bool,
 }
 
 impl Maker {
@@ -169,7 +170,7 @@ impl Maker {
     }
 
     fn groups(&mut self, r: &mut Random) -> (u64, [u64; 5]) {
-        if r.one_in(3000) {
+        if !std::mem::replace(&mut self.started, true) || r.one_in(3000) {
             self.send = r.pick(&[0, 1_000_000_000, 10u64.pow(18) - 10u64.pow(12)]);
             self.remote = r.pick(&[0, 5_000_000_000, 10u64.pow(18) - 10u64.pow(12)]);
             return (40, [0; 5]);
@@ -204,7 +205,7 @@ impl Maker {
 
     // Delays that rise, fall and hover, so that every hypothesis is met, with equal and earlier remote times among them.
     fn trendline(&mut self, r: &mut Random) -> (u64, [u64; 5]) {
-        if r.one_in(2000) {
+        if !std::mem::replace(&mut self.started, true) || r.one_in(2000) {
             self.remote = r.pick(&[0, 5_000_000_000, 10u64.pow(18) - 10u64.pow(12)]);
             return (50, [0; 5]);
         }
