@@ -1,0 +1,35 @@
+// Runs the rows of document 01 that are not theorems, and prints what each gives.
+use acked_bitrate_estimator::AckedBitrateEstimator;
+use arrival_group::ArrivalGroup;
+use bandwidth::DataSize;
+use bandwidth::OptionBitrate;
+use libc::STDOUT_FILENO;
+
+// Two packets of which the second is sent and received so many ns after the first.
+fn group(name: &[u8], spacing: u64) {
+    let first = ArrivalGroup::new().add_packet(0, 0).group;
+    io::write_all(STDOUT_FILENO, name);
+    if first.add_packet(spacing, spacing).need_new_group {
+        io::write_all(STDOUT_FILENO, b": starts anew\n");
+        return;
+    }
+    io::write_all(STDOUT_FILENO, b": joins\n");
+}
+
+// 1,000 bytes at 0 and at 500 ms, with windows of 500 and 150 ms.
+fn window(name: &[u8]) {
+    let empty = AckedBitrateEstimator::new(500_000_000, 150_000_000);
+    let once = empty.update(0, DataSize::bytes(1000));
+    let estimate = once.update(500_000_000, DataSize::bytes(1000)).current_estimate();
+    io::write_all(STDOUT_FILENO, name);
+    match estimate {
+        OptionBitrate::None => io::write_all(STDOUT_FILENO, b": no sample\n"),
+        OptionBitrate::Some(_) => io::write_all(STDOUT_FILENO, b": a sample\n"),
+    };
+}
+
+fn main() {
+    group(b"send and remote spacing of 5 ms", 5_000_000);
+    group(b"send and remote spacing of 6 ms", 6_000_000);
+    window(b"sizes at 0 and 500 ms only");
+}
