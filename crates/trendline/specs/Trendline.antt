@@ -87,9 +87,9 @@ newHistory = record { times = replicate 20 (lit 0); delays = replicate 20 (lit 0
 unfoldable pub add : History → Float → Float → History
 add h time delay =
     let p = place (h .times) (h .len) time in
-    cond (ltb (h .len) 20) (record { times = insert (h .times) p time; delays = insert (h .delays) p delay; len = h .len + 1 })
-    (cond (ltb 20 (h .len)) h
-    (record { times = insertFull (h .times) (place (h .times) 20 time) time; delays = insertFull (h .delays) (place (h .times) 20 time) delay; len = 20 }))
+    cond (ltb 20 (h .len)) h
+    (cond (ltb (h .len) 20) (record { times = insert (h .times) p time; delays = insert (h .delays) p delay; len = h .len + 1 })
+    (record { times = insertFull (h .times) p time; delays = insertFull (h .delays) p delay; len = h .len }))
 
 -- ---- the least-squares slope
 unfoldable pub totalFrom : Float → List Float → Float
