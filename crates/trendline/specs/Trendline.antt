@@ -185,7 +185,7 @@ nextOveruse (Over.Some o) sent = record { count = min (o .count + 1) 2; «time_o
 -- overuse is told once it has lasted over 10 ms and more than one observation, with a rising trend
 unfoldable pub overusing : Delays → Overuse → Float → BandwidthUsage → Judgement
 overusing d o trend hypothesis =
-    cond (Time.lt (Time.positive overUseTimeThreshold) (o .«time_overusing») && (ltb 1 (o .count) && Ieee.lt (d .«previous_trend») trend))
+    cond (Time.lt (Time.positive overUseTimeThreshold) (o .«time_overusing») && ltb 1 (o .count) && Ieee.lt (d .«previous_trend») trend)
     (record { overuse = Over.None; hypothesis = Usage.Overuse })
     (record { overuse = Over.Some o; hypothesis = hypothesis })
 
