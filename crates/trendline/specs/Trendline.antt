@@ -1,7 +1,7 @@
 -- src/bwe/delay/trendline.rs: the trend of the delay between groups, what it says, and the threshold that it is judged by. Window 20. Delays and times
 -- are ms, moments ns; each float operation is rounded once, and `powi(2)` is one product.
 use Prim.Native.Nat.{ℕ, zero, suc, _+_, _/_, min}
-use mathlib.Core.Bool.{Bool, true, false, _&&_, cond}
+use mathlib.Core.Bool.{_&&_, cond}
 use mathlib.Core.List.{List, [], _∷_, _++_}
 use lib.Dec.{ltb, eqb}
 use lib.IntN.{pos}
@@ -13,7 +13,6 @@ use Rattle.float_order.specs.Binary64.{sub, mul, div, lit}
 use Rattle.float.specs.Float as Float
 use Rattle.time.specs.Time as Time
 use Rattle.time.specs.Time.{instantOr, saturatingDurationSince}
-use Rattle.time.specs.declared.OptionInstant.{OptionInstant}
 use Rattle.time.specs.declared.OptionInstant.the-variants as Instant
 use Rattle.time.specs.declared.TimeDelta.{TimeDelta}
 use Rattle.arrival_group.specs.declared.InterGroupDelayDelta.{InterGroupDelayDelta}
