@@ -1,1 +1,2 @@
 pub mod Trendline
+pub mod Rows

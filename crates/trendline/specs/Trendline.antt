@@ -1,7 +1,7 @@
 -- src/bwe/delay/trendline.rs: the trend of the delay between groups, what it says, and the threshold that it is judged by. Window 20. Delays and times
 -- are ms, moments ns; each float operation is rounded once, and `powi(2)` is one product.
 use Prim.Native.Nat.{ℕ, zero, suc, _+_, _/_, min}
-use mathlib.Core.Bool.{Bool, true, false, _&&_, cond}
+use mathlib.Core.Bool.{_&&_, cond}
 use mathlib.Core.List.{List, [], _∷_, _++_}
 use lib.Dec.{ltb, eqb}
 use lib.IntN.{pos}
@@ -13,7 +13,6 @@ use Rattle.float_order.specs.Binary64.{sub, mul, div, lit}
 use Rattle.float.specs.Float as Float
 use Rattle.time.specs.Time as Time
 use Rattle.time.specs.Time.{instantOr, saturatingDurationSince}
-use Rattle.time.specs.declared.OptionInstant.{OptionInstant}
 use Rattle.time.specs.declared.OptionInstant.the-variants as Instant
 use Rattle.time.specs.declared.TimeDelta.{TimeDelta}
 use Rattle.arrival_group.specs.declared.InterGroupDelayDelta.{InterGroupDelayDelta}
@@ -87,9 +86,9 @@ newHistory = record { times = replicate 20 (lit 0); delays = replicate 20 (lit 0
 unfoldable pub add : History → Float → Float → History
 add h time delay =
     let p = place (h .times) (h .len) time in
-    cond (ltb (h .len) 20) (record { times = insert (h .times) p time; delays = insert (h .delays) p delay; len = h .len + 1 })
-    (cond (ltb 20 (h .len)) h
-    (record { times = insertFull (h .times) (place (h .times) 20 time) time; delays = insertFull (h .delays) (place (h .times) 20 time) delay; len = 20 }))
+    cond (ltb 20 (h .len)) h
+    (cond (ltb (h .len) 20) (record { times = insert (h .times) p time; delays = insert (h .delays) p delay; len = h .len + 1 })
+    (record { times = insertFull (h .times) p time; delays = insertFull (h .delays) p delay; len = h .len }))
 
 -- ---- the least-squares slope
 unfoldable pub totalFrom : Float → List Float → Float
@@ -185,7 +184,7 @@ nextOveruse (Over.Some o) sent = record { count = min (o .count + 1) 2; «time_o
 -- overuse is told once it has lasted over 10 ms and more than one observation, with a rising trend
 unfoldable pub overusing : Delays → Overuse → Float → BandwidthUsage → Judgement
 overusing d o trend hypothesis =
-    cond (Time.lt (Time.positive overUseTimeThreshold) (o .«time_overusing») && (ltb 1 (o .count) && Ieee.lt (d .«previous_trend») trend))
+    cond (Time.lt (Time.positive overUseTimeThreshold) (o .«time_overusing») && ltb 1 (o .count) && Ieee.lt (d .«previous_trend») trend)
     (record { overuse = Over.None; hypothesis = Usage.Overuse })
     (record { overuse = Over.Some o; hypothesis = hypothesis })
 
