@@ -9,7 +9,7 @@ returns c = simp (c .enum-told .given .1)
 
 returns-2 : tie.Need-returns-2
 unfolding isNearConvergence
-returns-2 c = simp (← c .within-std .ensures, c .before .as-f64 .ensures, c .before .before .before .before .last-observed-bitrate .given .1)
+returns-2 c = simp (← c .within-std .ensures, ← c .before .as-f64 .ensures, c .before .before .before .before .last-observed-bitrate .given .1)
 
 pub is-near-convergence-spec : {M : Type 1} → statement M
 is-near-convergence-spec =

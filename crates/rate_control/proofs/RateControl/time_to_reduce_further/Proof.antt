@@ -10,11 +10,11 @@ returns c = simp (c .enum-told .given .1)
 
 returns-2 : tie.Need-returns-2
 unfolding timeToReduceFurther
-returns-2 c = simp (le-leb _ _ (c .if1 .taken), c .before .saturating-duration-since .ensures, ← c .before .before .reduction-interval .ensures, c .before .before .before .duration-or .ensures, c .before .before .before .before .before .last-estimate-update .given .1)
+returns-2 c = simp (le-leb _ _ (c .if1 .taken), ← c .before .saturating-duration-since .ensures, ← c .before .before .reduction-interval .ensures, ← c .before .before .before .duration-or .ensures, c .before .before .before .before .before .last-estimate-update .given .1)
 
 returns-3 : tie.Need-returns-3
 unfolding timeToReduceFurther
-returns-3 c = simp (c .lt .ensures, c .before .mul .ensures, lt-leb _ _ (c .before .before .before .if1 .left), c .before .before .before .before .saturating-duration-since .ensures, ← c .before .before .before .before .before .reduction-interval .ensures, c .before .before .before .before .before .before .duration-or .ensures, c .before .before .before .before .before .before .before .before .last-estimate-update .given .1)
+returns-3 c = simp (c .lt .ensures, c .before .mul .ensures, lt-leb _ _ (c .before .before .before .if1 .left), ← c .before .before .before .before .saturating-duration-since .ensures, ← c .before .before .before .before .before .reduction-interval .ensures, ← c .before .before .before .before .before .before .duration-or .ensures, c .before .before .before .before .before .before .before .before .last-estimate-update .given .1)
 
 pub time-to-reduce-further-spec : {M : Type 1} → statement M
 time-to-reduce-further-spec =

@@ -5,7 +5,7 @@ use Rattle.rate_control.proofs.RateControl.update_observed_bitrate.Tie 
 
 returns : tie.Need-returns
 unfolding updateObservedBitrate
-returns c = simp (← c .with-average .ensures, ← c .before .update .ensures, ← c .before .before .reset-below .ensures, c .before .before .before .as-f64 .ensures)
+returns c = simp (← c .with-average .ensures, ← c .before .update .ensures, ← c .before .before .reset-below .ensures, ← c .before .before .before .as-f64 .ensures)
 
 pub update-observed-bitrate-spec : {M : Type 1} → statement M
 update-observed-bitrate-spec =
