@@ -1,3 +1,4 @@
+-- `rate_control::reduction_interval` meets its contract: each return is its case of the definition.
 use Rattle.rate_control.specs.RateControl.{reductionInterval}
 use borrow.Author.Tests.{le-ltb, lt-ltb}
 use Rattle.rate_control.proofs.reduction_interval.Statement.{statement}

@@ -1,3 +1,4 @@
+-- `rate_control::reset_above` meets its contract, by whether there is a range and whether the value lies above it.
 use Rattle.rate_control.specs.RateControl.{resetAbove}
 use borrow.Author.Needs.{needs}
 use Rattle.rate_control.proofs.reset_above.Statement.{statement}

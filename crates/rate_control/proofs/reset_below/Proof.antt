@@ -1,3 +1,4 @@
+-- `rate_control::reset_below` meets its contract, by whether there is a range and whether the value lies below it.
 use Rattle.rate_control.specs.RateControl.{resetBelow}
 use borrow.Author.Needs.{needs}
 use Rattle.rate_control.proofs.reset_below.Statement.{statement}

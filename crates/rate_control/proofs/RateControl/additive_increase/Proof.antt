@@ -1,3 +1,4 @@
+-- `RateControl::additive_increase` meets its contract: each call gives what the definition has in its place.
 use Rattle.rate_control.specs.RateControl.{additiveIncrease}
 use borrow.Author.Needs.{needs}
 use Rattle.rate_control.proofs.RateControl.additive_increase.Statement.{statement}

@@ -1,3 +1,4 @@
+-- `RateControl::decrease` meets its contract, by whether the estimate is below the lowered rate.
 use Rattle.rate_control.specs.RateControl.{decrease}
 use borrow.Author.Needs.{needs}
 use Rattle.rate_control.proofs.RateControl.decrease.Statement.{statement}

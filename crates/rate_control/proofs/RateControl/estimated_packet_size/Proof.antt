@@ -1,3 +1,4 @@
+-- `RateControl::estimated_packet_size` meets its contract: each call gives what the definition has in its place.
 use Rattle.rate_control.specs.RateControl.{estimatedPacketSize}
 use borrow.Author.Needs.{needs}
 use Rattle.rate_control.proofs.RateControl.estimated_packet_size.Statement.{statement}

@@ -1,3 +1,4 @@
+-- `RateControl::increase` meets its contract, by whether the estimate is at its limit.
 use Rattle.rate_control.specs.RateControl.{increase}
 use borrow.Author.Needs.{needs}
 use Rattle.rate_control.proofs.RateControl.increase.Statement.{statement}

@@ -1,3 +1,4 @@
+-- `RateControl::is_near_convergence` meets its contract, by whether there is an observed rate.
 use Rattle.rate_control.specs.RateControl.{isNearConvergence}
 use borrow.Author.Needs.{needs}
 use Rattle.rate_control.proofs.RateControl.is_near_convergence.Statement.{statement}

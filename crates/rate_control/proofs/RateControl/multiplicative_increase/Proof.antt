@@ -1,3 +1,4 @@
+-- `RateControl::multiplicative_increase` meets its contract: each call gives what the definition has in its place.
 use Rattle.rate_control.specs.RateControl.{multiplicativeIncrease}
 use borrow.Author.Needs.{needs}
 use Rattle.rate_control.proofs.RateControl.multiplicative_increase.Statement.{statement}

@@ -1,3 +1,4 @@
+-- `RateControl::raised` meets its contract, by whether it is near convergence.
 use Rattle.rate_control.specs.RateControl.{raised}
 use borrow.Author.Needs.{needs}
 use Rattle.rate_control.proofs.RateControl.raised.Statement.{statement}

@@ -1,3 +1,4 @@
+-- `RateControl::set_probe_result` meets its contract: each call gives what the definition has in its place.
 use Rattle.rate_control.specs.RateControl.{setProbeResult}
 use borrow.Author.Needs.{needs}
 use Rattle.rate_control.proofs.RateControl.set_probe_result.Statement.{statement}

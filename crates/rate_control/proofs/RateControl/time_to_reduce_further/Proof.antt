@@ -1,3 +1,4 @@
+-- `RateControl::time_to_reduce_further` meets its contract, by whether there was a change before and how long ago.
 use Rattle.rate_control.specs.RateControl.{timeToReduceFurther}
 use borrow.Author.Tests.{le-leb, lt-leb}
 use borrow.Author.Needs.{needs}

@@ -1,3 +1,4 @@
+-- `RateControl::update` meets its contract, by the state, and in Decrease by whether it is time to reduce further.
 use Rattle.rate_control.specs.RateControl.{update}
 use borrow.Author.Needs.{needs}
 use Rattle.rate_control.proofs.RateControl.update.Statement.{statement}

@@ -1,3 +1,4 @@
+-- `RateControl::update_estimate` meets its contract: each call gives what the definition has in its place.
 use Rattle.rate_control.specs.RateControl.{updateEstimate}
 use borrow.Author.Needs.{needs}
 use Rattle.rate_control.proofs.RateControl.update_estimate.Statement.{statement}

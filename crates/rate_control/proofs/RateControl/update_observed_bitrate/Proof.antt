@@ -1,3 +1,4 @@
+-- `RateControl::update_observed_bitrate` meets its contract: each call gives what the definition has in its place.
 use Rattle.rate_control.specs.RateControl.{updateObservedBitrate}
 use borrow.Author.Needs.{needs}
 use Rattle.rate_control.proofs.RateControl.update_observed_bitrate.Statement.{statement}

@@ -1,3 +1,4 @@
+-- `RateControl::with_average` meets its contract: the fields are those of the definition.
 use Rattle.rate_control.specs.RateControl.{withAverage}
 use mathlib.Core.Path.{refl}
 use Rattle.rate_control.proofs.RateControl.with_average.Statement.{statement}

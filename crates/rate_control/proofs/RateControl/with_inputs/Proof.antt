@@ -1,3 +1,4 @@
+-- `RateControl::with_inputs` meets its contract: each call gives what the definition has in its place.
 use Rattle.rate_control.specs.RateControl.{withInputs}
 use borrow.Author.Needs.{needs}
 use Rattle.rate_control.proofs.RateControl.with_inputs.Statement.{statement}

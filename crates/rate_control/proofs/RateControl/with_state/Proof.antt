@@ -1,3 +1,4 @@
+-- `RateControl::with_state` meets its contract: the fields are those of the definition.
 use Rattle.rate_control.specs.RateControl.{withState}
 use mathlib.Core.Path.{refl}
 use Rattle.rate_control.proofs.RateControl.with_state.Statement.{statement}

@@ -1,3 +1,4 @@
+-- `Signal::from` meets its contract: each return is its case of the definition.
 use Rattle.rate_control.specs.RateControl.{signal}
 use borrow.Author.Needs.{needs}
 use Rattle.rate_control.proofs.Signal.from.Statement.{statement}

@@ -1,3 +1,4 @@
+-- `State::transition` meets its contract: each return is its case of the definition.
 use Rattle.rate_control.specs.RateControl.{transition}
 use borrow.Author.Needs.{needs}
 use Rattle.rate_control.proofs.State.transition.Statement.{statement}
