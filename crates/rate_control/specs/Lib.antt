@@ -1,1 +1,2 @@
 pub mod RateControl
+pub mod Rows

@@ -16,13 +16,13 @@ use Rattle.bandwidth.specs.Bandwidth as B
 use Rattle.bandwidth.specs.declared.Bitrate.{Bitrate}
 use Rattle.bandwidth.specs.declared.OptionBitrate.{OptionBitrate}
 use Rattle.bandwidth.specs.declared.OptionBitrate.the-variants as Observed
+use Rattle.bandwidth.specs.declared.BandwidthUsage.{BandwidthUsage}
+use Rattle.bandwidth.specs.declared.BandwidthUsage.the-variants as Usage
 use Rattle.time.specs.Time.{saturatingDurationSince, instantOr, durationOr, durationOrElse}
 use Rattle.time.specs.declared.OptionInstant.{OptionInstant}
 use Rattle.time.specs.declared.OptionInstant.the-variants as Instant
 use Rattle.time.specs.declared.OptionDuration.{OptionDuration}
 use Rattle.time.specs.declared.OptionDuration.the-variants as Duration
-use Rattle.bandwidth.specs.declared.BandwidthUsage.{BandwidthUsage}
-use Rattle.bandwidth.specs.declared.BandwidthUsage.the-variants as Usage
 use Rattle.rate_control.specs.declared.Signal.{Signal}
 use Rattle.rate_control.specs.declared.Signal.the-variants.{Overuse, Underuse, Normal}
 use Rattle.rate_control.specs.declared.State.{State}

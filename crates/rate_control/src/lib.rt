@@ -234,7 +234,7 @@ impl RateControl {
     {
         let last_estimate_update = self.last_estimate_update;
         let OptionInstant::Some(last_change) = last_estimate_update else {
-            return true;
+            return true; // no change yet
         };
         let last_rtt = self.last_rtt;
         let rtt = time::duration_or(last_rtt, DEFAULT_BACKOFF_TIME);
