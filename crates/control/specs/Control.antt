@@ -124,10 +124,12 @@ unfoldable pub updateEstimate : DelayController → OptionBitrate → OptionBitr
 updateEstimate c observed probe now = withRate c (rateAfter probe observed c now) (saturatingAdd now updateInterval)
 
 -- ---- a report
+abbrev pub begin : DelayController → Packets
+begin c = record { «arrival_group_accumulator» = c .«arrival_group_accumulator»; «trendline_estimator» = c .«trendline_estimator»; «max_rtt» = Duration.None }
+
 unfoldable pub update : DelayController → List ℕ → List ℕ → List ℕ → OptionBitrate → OptionBitrate → ℕ → DelayController
 update c sends remotes receives acked probe now =
-    let packets = record { «arrival_group_accumulator» = c .«arrival_group_accumulator»; «trendline_estimator» = c .«trendline_estimator»; «max_rtt» = Duration.None } in
-    updateEstimate (withPackets c (addAll packets sends remotes receives) now) acked probe now
+    updateEstimate (withPackets c (addAll (begin c) sends remotes receives) now) acked probe now
 
 -- ---- a timeout: a hypothesis older than twice the round trip, or than 50 ms, waits for the next report
 abbrev pub validSince : OptionInstant → DelayController → ℕ → Bool
