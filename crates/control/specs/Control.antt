@@ -132,9 +132,13 @@ update c sends remotes receives acked probe now =
     updateEstimate (withPackets c (addAll (begin c) sends remotes receives) now) acked probe now
 
 -- ---- a timeout: a hypothesis older than twice the round trip, or than 50 ms, waits for the next report
+-- the smoothed round trip, at most 25 ms
+unfoldable pub wait : DelayController → ℕ
+wait c = min (durationOr (getSmoothedRtt c) maxTwccGap) updateInterval
+
 abbrev pub validSince : OptionInstant → DelayController → ℕ → Bool
 validSince Instant.None c now = false
-validSince (Instant.Some last) c now = leb (saturatingDurationSince now last) (2 * min (durationOr (getSmoothedRtt c) maxTwccGap) updateInterval)
+validSince (Instant.Some last) c now = leb (saturatingDurationSince now last) (2 * wait c)
 
 unfoldable pub trendlineHypothesisValid : DelayController → ℕ → Bool
 trendlineHypothesisValid c now = validSince (c .«last_twcc_report») c now
@@ -142,4 +146,4 @@ trendlineHypothesisValid c now = validSince (c .«last_twcc_report») c now
 unfoldable pub handleTimeout : DelayController → OptionBitrate → ℕ → DelayController
 handleTimeout c acked now =
     cond (trendlineHypothesisValid c now) (updateEstimate c acked Rate.None now)
-    (withRate c (c .«rate_control») (saturatingAdd now (min (durationOr (getSmoothedRtt c) maxTwccGap) updateInterval)))
+    (withRate c (c .«rate_control») (saturatingAdd now (wait c)))

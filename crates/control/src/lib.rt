@@ -1,6 +1,7 @@
 // src/bwe/delay/control.rs: the delay controller. Smoothed round trips are present after any packet, so the Rust's history of them is never
 // consulted and is left out, and so is its copy of the last estimate, which is always the rate control's.
 ghost use mathlib.Core.Path.{_≡_};
+ghost use Prim.Native.Nat.{_≤_};
 ghost use Rattle.control.specs.Control as Control;
 use arrival_group::ArrivalGroupAccumulator;
 use arrival_group::OptionDelta;
@@ -213,6 +214,17 @@ impl DelayController {
         )
     }
 
+    // The smoothed round trip, at most 25 ms.
+    fn wait(self) -> u64
+        ensures { λ r. ⌜ (r ≡ Control.wait self) × (r ≤ 25000000) ⌝ }
+    {
+        let rtt = time::duration_or(self.get_smoothed_rtt(), MAX_TWCC_GAP);
+        if rtt < UPDATE_INTERVAL {
+            return rtt;
+        }
+        UPDATE_INTERVAL
+    }
+
     // Whether the hypothesis is not too old: at most twice the smoothed round trip, and at most 50 ms.
     fn trendline_hypothesis_valid(self, now: u64) -> bool
         ensures { λ r. ⌜ r ≡ Control.trendlineHypothesisValid self now ⌝ }
@@ -238,9 +250,9 @@ impl DelayController {
         local_recv_times: &[u64],
         acked_bitrate: OptionBitrate,
         probe_bitrate: OptionBitrate,
-        now: u64,
+        moment: u64,
     ) -> Self
-        ensures { λ r. ⌜ r ≡ Control.update self (now («local_send_times» .entry)) (now («remote_recv_times» .entry)) (now («local_recv_times» .entry)) «acked_bitrate» «probe_bitrate» now ⌝ }
+        ensures { λ r. ⌜ r ≡ Control.update self (now («local_send_times» .entry)) (now («remote_recv_times» .entry)) (now («local_recv_times» .entry)) «acked_bitrate» «probe_bitrate» moment ⌝ }
     {
         let arrival_group_accumulator = self.arrival_group_accumulator;
         let trendline_estimator = self.trendline_estimator;
@@ -250,8 +262,8 @@ impl DelayController {
             max_rtt: OptionDuration::None,
         };
         let fed = packets.add_all(local_send_times, remote_recv_times, local_recv_times);
-        self.with_packets(fed, now)
-            .update_estimate(acked_bitrate, probe_bitrate, now)
+        self.with_packets(fed, moment)
+            .update_estimate(acked_bitrate, probe_bitrate, moment)
     }
 
     // A timeout. A hypothesis that is too old waits for the next report.
