@@ -20,12 +20,14 @@ fn group(name: &[u8], spacing: u64) {
 fn window(name: &[u8]) {
     let empty = AckedBitrateEstimator::new(500_000_000, 150_000_000);
     let once = empty.update(0, DataSize::bytes(1000));
-    let estimate = once.update(500_000_000, DataSize::bytes(1000)).current_estimate();
+    let estimate = once.update(500_000_000, DataSize::bytes(1000))
+        .current_estimate();
     io::write_all(STDOUT_FILENO, name);
     match estimate {
         OptionBitrate::None => io::write_all(STDOUT_FILENO, b": no sample\n"),
         OptionBitrate::Some(_) => io::write_all(STDOUT_FILENO, b": a sample\n"),
-    };
+    }
+    ;
 }
 
 fn main() {
