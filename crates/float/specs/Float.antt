@@ -1,4 +1,4 @@
--- Rust's `f64::min`, `max`, `clamp`, `abs` and `ceil`, for every input.
+-- Document 01's minimum, maximum, clamp and ceiling, and the magnitude: Rust's `f64::min`, `max`, `clamp`, `ceil` and `abs`, for every input.
 use Prim.Native.Nat.{ℕ, _+_, _-_, _*_, _/_}
 use mathlib.Core.Bool.{Bool, true, false, cond}
 use lib.Ieee.{Float, nan, inf, fin, binary64, up, down, isNan, lt, round}

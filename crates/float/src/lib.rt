@@ -14,13 +14,13 @@ pub fn min(a: f64, b: f64) -> f64
 }
 
 // The larger of the two; where one is a NaN the other; where they are equal the first.
-pub fn max(a: f64, b: f64) -> f64
-    ensures { λ r. ⌜ r ≡ max a b ⌝ }
+pub fn max(x: f64, y: f64) -> f64
+    ensures { λ r. ⌜ r ≡ max x y ⌝ }
 {
-    if a != a {
-        return b;
+    if x != x {
+        return y;
     }
-    if a < b { b } else { a }
+    if x < y { y } else { x }
 }
 
 // x brought into lo ..= hi, and hi where lo is above it. A NaN stays.

@@ -1,4 +1,4 @@
--- Seconds of a duration and whole ns of seconds, as Rust's `Duration::as_secs_f64` and `Duration::from_secs_f64` have them. A duration is a whole number of ns.
+-- Document 01's seconds of a duration, and ns of seconds to nearest, as Rust's `Duration::as_secs_f64` and `Duration::from_secs_f64` have them. A duration is a whole number of ns.
 use Prim.Native.Nat.{ℕ, _-_, _*_, _/_, _%_, _^_, min}
 use mathlib.Core.Bool.{true, false, cond}
 use lib.IntN.{pos}
