@@ -1,0 +1,285 @@
+// src/bwe/delay/control.rs: the delay controller. Smoothed round trips are present after any packet, so the Rust's history of them is never
+// consulted and is left out, and so is its copy of the last estimate, which is always the rate control's.
+ghost use mathlib.Core.Path.{_≡_};
+ghost use Rattle.control.specs.Control as Control;
+use arrival_group::ArrivalGroupAccumulator;
+use arrival_group::OptionDelta;
+use average::MovingAverage;
+use average::OptionF64;
+use bandwidth::BandwidthUsage;
+use bandwidth::Bitrate;
+use bandwidth::OptionBitrate;
+use rate_control::RateControl;
+use rate_control::Signal;
+use time::OptionDuration;
+use time::OptionInstant;
+use trendline::TrendlineEstimator;
+
+const UPDATE_INTERVAL: u64 = 25_000_000;
+
+const MAX_TWCC_GAP: u64 = 500_000_000;
+
+pub struct DelayController {
+    pub arrival_group_accumulator: ArrivalGroupAccumulator,
+    pub trendline_estimator: TrendlineEstimator,
+    pub rate_control: RateControl,
+    // The smoothed round trip, in seconds.
+    pub smoothed_rtt: MovingAverage,
+    // When to poll next; 0, which is due, before the first call.
+    pub next_timeout: u64,
+    // When the last report was taken.
+    pub last_twcc_report: OptionInstant,
+}
+
+// What a report's packets feed: the groups, the trendline, and the greatest round trip.
+pub struct Packets {
+    pub arrival_group_accumulator: ArrivalGroupAccumulator,
+    pub trendline_estimator: TrendlineEstimator,
+    pub max_rtt: OptionDuration,
+}
+
+impl Packets {
+    // A packet, in the order of receipt.
+    pub fn add(self, local_send_time: u64, remote_recv_time: u64, local_recv_time: u64) -> Self
+        ensures { λ r. ⌜ r ≡ Control.add self «local_send_time» «remote_recv_time» «local_recv_time» ⌝ }
+    {
+        let accumulator = self.arrival_group_accumulator;
+        let trendline = self.trendline_estimator;
+        let before = self.max_rtt;
+        let rtt = time::saturating_duration_since(local_recv_time, local_send_time);
+        let max_rtt = time::longest(before, rtt);
+        let done = accumulator.accumulate_packet(local_send_time, remote_recv_time);
+        let arrival_group_accumulator = done.accumulator;
+        let delta = done.delta;
+        match delta {
+            OptionDelta::None => Self {
+                arrival_group_accumulator,
+                trendline_estimator: trendline,
+                max_rtt,
+            },
+            OptionDelta::Some(variation) => Self {
+                arrival_group_accumulator,
+                trendline_estimator: trendline.add_delay_observation(
+                    variation,
+                    variation.last_remote_recv_time,
+                ),
+                max_rtt,
+            },
+        }
+    }
+
+    // A report's packets in the order of receipt, as three lists; what one list has more is left out.
+    fn add_all(
+        self,
+        local_send_times: &[u64],
+        remote_recv_times: &[u64],
+        local_recv_times: &[u64],
+    ) -> Self
+        ensures { λ r. ⌜ r ≡ Control.addAll self (now («local_send_times» .entry)) (now («remote_recv_times» .entry)) (now («local_recv_times» .entry)) ⌝ }
+    {
+        let mut packets = self;
+        let mut i = 0;
+        while i < local_send_times.len() {
+            if remote_recv_times.len() <= i {
+                return packets;
+            }
+            if local_recv_times.len() <= i {
+                return packets;
+            }
+            packets = packets.add(
+                local_send_times[i],
+                remote_recv_times[i],
+                local_recv_times[i],
+            );
+            i += 1;
+        }
+        packets
+    }
+}
+
+impl DelayController {
+    pub const RTT_SMOOTHING_FACTOR: f64 = 0.125;
+
+    pub fn new(initial_bitrate: Bitrate) -> Self
+        ensures { λ r. ⌜ r ≡ Control.new «initial_bitrate» ⌝ }
+    {
+        let arrival_group_accumulator = ArrivalGroupAccumulator::new();
+        let trendline_estimator = TrendlineEstimator::new();
+        let rate_control = RateControl::new(
+            initial_bitrate,
+            Bitrate::MIN_ESTIMATE,
+            Bitrate::MAX_ESTIMATE,
+        );
+        let smoothed_rtt = MovingAverage::new(Self::RTT_SMOOTHING_FACTOR);
+        Self {
+            arrival_group_accumulator,
+            trendline_estimator,
+            rate_control,
+            smoothed_rtt,
+            next_timeout: 0,
+            last_twcc_report: OptionInstant::None,
+        }
+    }
+
+    pub fn poll_timeout(self) -> u64
+        ensures { λ r. ⌜ r ≡ self .«next_timeout» ⌝ }
+    {
+        self.next_timeout
+    }
+
+    pub fn last_estimate(self) -> Bitrate
+        ensures { λ r. ⌜ r ≡ self .«rate_control» .«estimated_bitrate» ⌝ }
+    {
+        let rate_control = self.rate_control;
+        rate_control.estimated_bitrate()
+    }
+
+    pub fn hypothesis(self) -> BandwidthUsage
+        ensures { λ r. ⌜ r ≡ self .«trendline_estimator» .hypothesis ⌝ }
+    {
+        let trendline = self.trendline_estimator;
+        trendline.hypothesis()
+    }
+
+    // The smoothed round trip in ns: the nearest, ties to even.
+    pub fn get_smoothed_rtt(self) -> OptionDuration
+        ensures { λ r. ⌜ r ≡ Control.getSmoothedRtt self ⌝ }
+    {
+        let smoothed_rtt = self.smoothed_rtt;
+        let average = smoothed_rtt.get();
+        match average {
+            OptionF64::None => OptionDuration::None,
+            OptionF64::Some(secs) => OptionDuration::Some(seconds::from_secs_f64(secs)),
+        }
+    }
+
+    // The rate control after an update, and the next timeout.
+    fn with_rate(self, rate_control: RateControl, next_timeout: u64) -> Self
+        ensures { λ r. ⌜ r ≡ Control.withRate self «rate_control» «next_timeout» ⌝ }
+    {
+        let arrival_group_accumulator = self.arrival_group_accumulator;
+        let trendline_estimator = self.trendline_estimator;
+        let smoothed_rtt = self.smoothed_rtt;
+        let last_twcc_report = self.last_twcc_report;
+        Self {
+            arrival_group_accumulator,
+            trendline_estimator,
+            rate_control,
+            smoothed_rtt,
+            next_timeout,
+            last_twcc_report,
+        }
+    }
+
+    // The state after a report's packets: groups, trendline and smoothed round trip; and when it was taken.
+    fn with_packets(self, packets: Packets, now: u64) -> Self
+        ensures { λ r. ⌜ r ≡ Control.withPackets self packets now ⌝ }
+    {
+        let arrival_group_accumulator = packets.arrival_group_accumulator;
+        let trendline_estimator = packets.trendline_estimator;
+        let max_rtt = packets.max_rtt;
+        let rate_control = self.rate_control;
+        let smoothed = self.smoothed_rtt;
+        let smoothed_rtt = update_rtt(smoothed, max_rtt);
+        Self {
+            arrival_group_accumulator,
+            trendline_estimator,
+            rate_control,
+            smoothed_rtt,
+            next_timeout: self.next_timeout,
+            last_twcc_report: OptionInstant::Some(now),
+        }
+    }
+
+    // A probe's result is applied as it is; else the observed rate, where there is one, goes to the rate control.
+    fn update_estimate(
+        self,
+        observed_bitrate: OptionBitrate,
+        probe_bitrate: OptionBitrate,
+        now: u64,
+    ) -> Self
+        ensures { λ r. ⌜ r ≡ Control.updateEstimate self «observed_bitrate» «probe_bitrate» now ⌝ }
+    {
+        let rate_control = self.rate_control;
+        let next_timeout = time::saturating_add(now, UPDATE_INTERVAL);
+        if let OptionBitrate::Some(probe) = probe_bitrate {
+            return self.with_rate(rate_control.set_probe_result(probe, now), next_timeout);
+        }
+        let OptionBitrate::Some(observed) = observed_bitrate else {
+            return self.with_rate(rate_control, next_timeout);
+        };
+        let signal = Signal::from(self.hypothesis());
+        let rtt = self.get_smoothed_rtt();
+        self.with_rate(
+            rate_control.update(signal, observed, rtt, now),
+            next_timeout,
+        )
+    }
+
+    // The smoothed round trip, at most 25 ms.
+    fn wait(self) -> u64
+        ensures { λ r. ⌜ r ≡ Control.wait self ⌝ }
+    {
+        let rtt = time::duration_or(self.get_smoothed_rtt(), MAX_TWCC_GAP);
+        if rtt < UPDATE_INTERVAL {
+            return rtt;
+        }
+        UPDATE_INTERVAL
+    }
+
+    // Whether the hypothesis is not too old: at most twice the smoothed round trip, and at most 50 ms.
+    fn trendline_hypothesis_valid(self, now: u64) -> bool
+        ensures { λ r. ⌜ r ≡ Control.trendlineHypothesisValid self now ⌝ }
+    {
+        let last_twcc_report = self.last_twcc_report;
+        let OptionInstant::Some(last) = last_twcc_report else {
+            return false;
+        };
+        time::saturating_duration_since(now, last) <= 2 * self.wait()
+    }
+
+    // A report: its packets in the order of receipt, the acknowledged rate, a probe's result or none, and the moment.
+    pub fn update(
+        self,
+        local_send_times: &[u64],
+        remote_recv_times: &[u64],
+        local_recv_times: &[u64],
+        acked_bitrate: OptionBitrate,
+        probe_bitrate: OptionBitrate,
+        moment: u64,
+    ) -> Self
+        ensures { λ r. ⌜ r ≡ Control.update self (now («local_send_times» .entry)) (now («remote_recv_times» .entry)) (now («local_recv_times» .entry)) «acked_bitrate» «probe_bitrate» moment ⌝ }
+    {
+        let arrival_group_accumulator = self.arrival_group_accumulator;
+        let trendline_estimator = self.trendline_estimator;
+        let packets = Packets {
+            arrival_group_accumulator,
+            trendline_estimator,
+            max_rtt: OptionDuration::None,
+        };
+        let fed = packets.add_all(local_send_times, remote_recv_times, local_recv_times);
+        self.with_packets(fed, moment)
+            .update_estimate(acked_bitrate, probe_bitrate, moment)
+    }
+
+    // A timeout. A hypothesis that is too old waits for the next report.
+    pub fn handle_timeout(self, acked_bitrate: OptionBitrate, now: u64) -> Self
+        ensures { λ r. ⌜ r ≡ Control.handleTimeout self «acked_bitrate» now ⌝ }
+    {
+        if self.trendline_hypothesis_valid(now) {
+            return self.update_estimate(acked_bitrate, OptionBitrate::None, now);
+        }
+        let rate_control = self.rate_control;
+        self.with_rate(rate_control, time::saturating_add(now, self.wait()))
+    }
+}
+
+// The smoothed round trip after a report's greatest.
+fn update_rtt(smoothed_rtt: MovingAverage, max_rtt: OptionDuration) -> MovingAverage
+    ensures { λ r. ⌜ r ≡ Control.updateRtt «smoothed_rtt» «max_rtt» ⌝ }
+{
+    match max_rtt {
+        OptionDuration::None => smoothed_rtt,
+        OptionDuration::Some(rtt) => smoothed_rtt.update(seconds::as_secs_f64(rtt)),
+    }
+}
