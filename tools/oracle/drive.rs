@@ -119,7 +119,8 @@ impl States {
             40..50 => self.groups(op, i),
             50..60 => self.trendline(op, i),
             60..70 => self.rate(op, i),
-            _ => self.control(op, i),
+            70..80 => self.control(op, i),
+            _ => bandwidth(op, i),
         }
     }
 
@@ -246,8 +247,17 @@ fn time(op: u64, i: [u64; 5]) -> Answers {
         11 => two(stamp_words(s - ns(i[2]))),
         12 => two(delta_words(s - at(i[2]))),
         13 => one(bits((DataSize::bytes(i[2] as i64) / a).as_f64())),
-        14 => [(a == ns(i[2])) as u64, (a < ns(i[2])) as u64, (a <= ns(i[2])) as u64, 0, 0, 0],
-        15 => one(bits((DataSize::bytes(i[2] as i64) / ns(i[1])).as_f64())),
-        _ => one(bits((Bitrate::bps(i[1]) * f64::from_bits(i[2])).as_f64())),
+        _ => [(a == ns(i[2])) as u64, (a < ns(i[2])) as u64, (a <= ns(i[2])) as u64, 0, 0, 0],
     }
+}
+
+// Two rates: limited, multiplied, compared. Two sizes: as a float, summed (told by an order), per duration.
+fn bandwidth(op: u64, i: [u64; 5]) -> Answers {
+    if op == 80 {
+        let (a, b) = (rate(i[0]), rate(i[1]));
+        let limited = a.clamp(rate(i[2]), rate(i[3]));
+        return [bits(limited.as_f64()), bits((a * f64::from_bits(i[1])).as_f64()), (a < b) as u64, bits(Bitrate::bps(i[4]).as_f64()), 0, 0];
+    }
+    let (a, b, c) = (DataSize::bytes(i[0] as i64), DataSize::bytes(i[1] as i64), DataSize::bytes(i[2] as i64));
+    [bits(a.as_bytes_f64()), (a < b) as u64, (a + b < c) as u64, bits((a / ns(i[3])).as_f64()), 0, 0]
 }

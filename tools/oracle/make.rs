@@ -53,6 +53,7 @@ pub fn make(module: &str, seed: u64, count: u64) {
     for _ in 0..count {
         let (op, i) = match module {
             "time" => time(&mut r),
+            "bandwidth" => bandwidth(&mut r),
             "average" => maker.average(&mut r),
             "acked" => maker.acked(&mut r),
             "groups" => maker.groups(&mut r),
@@ -84,7 +85,7 @@ fn length(r: &mut Random) -> u64 {
 }
 
 fn time(r: &mut Random) -> (u64, [u64; 5]) {
-    let op = 1 + r.below(16);
+    let op = 1 + r.below(14);
     let (t, u) = (r.below(4), r.below(4));
     let a = length(r);
     let b = if r.one_in(4) { a } else { length(r) };
@@ -98,10 +99,33 @@ fn time(r: &mut Random) -> (u64, [u64; 5]) {
         10 | 11 => (op, [t % 3, a + 10u64.pow(18), b, 0, 0]),
         12 => (op, [t % 3, a, b, 0, 0]),
         13 => (op, [t, a, r.sized(40), 0, 0]),
-        14 => (op, [t, a, b, 0, 0]),
-        15 => (op, [0, a, r.sized(40), 0, 0]),
-        _ => (op, [0, r.sized(63), f64::to_bits(r.below(1000) as f64 / 64.0), 0, 0]),
+        _ => (op, [t, a, b, 0, 0]),
     }
+}
+
+// Any float: realistic rates, limits and their neighbours, and any bits.
+fn float(r: &mut Random) -> u64 {
+    match r.below(4) {
+        0 => r.next(),
+        1 => {
+            let limit = r.pick(&[0.0, 1.0, 40_000.0, 1e10, 1e14, f64::MAX, f64::INFINITY]);
+            r.near(limit.to_bits())
+        }
+        _ => f64::to_bits(r.sized(46) as f64 / 64.0),
+    }
+}
+
+// Sums of sizes stay within an i64, limits are in order and no NaN: on others the Rust panics.
+fn bandwidth(r: &mut Random) -> (u64, [u64; 5]) {
+    if r.one_in(2) {
+        let (a, b) = (float(r), float(r));
+        let limits = if r.one_in(2) { (40_000.0, 1e10) } else { (r.sized(40) as f64 / 4.0, 1e13 + r.sized(50) as f64) };
+        return (80, [a, b, f64::to_bits(limits.0), f64::to_bits(limits.1), r.sized(63)]);
+    }
+    let a = r.sized(62);
+    let b = if r.one_in(4) { r.near(a) } else { r.sized(62) };
+    let c = r.near(a + b);
+    (81, [a, b, c, length(r), 0])
 }
 
 #[derive(Default)]

@@ -1,34 +1,33 @@
 // Replays cases of the oracle (tools/oracle) from standard input and compares every answer to the bit. A case is 12 words of 8 bytes,
 // little-endian: an operation, 5 inputs, 6 answers. A line a module: its name, how many cases, how many differ. Then the first case that differs.
-mod ops;
+mod cases;
+mod delay;
+mod quantities;
 
+use cases::Answers;
+use cases::Inputs;
 use libc::STDIN_FILENO;
 use libc::STDOUT_FILENO;
-use ops::Answers;
-use ops::Inputs;
-use ops::States;
 use std::num::wrapping_add_u64;
 use std::num::wrapping_add_usize;
 
 // Of each module how many cases and how many that differ; the place of the first that differs, counted from 1.
 struct Counts {
-    cases: [u64; 4],
-    wrong: [u64; 4],
+    cases: [u64; 8],
+    wrong: [u64; 8],
     all: u64,
     first: u64,
 }
 
+// The module of an operation: they have ten numbers each, from 1 on for time, then from 20 on.
 fn module(op: u64) -> usize {
     if op < 20 {
         return 0;
     }
-    if op < 30 {
-        return 1;
+    if op < 90 {
+        return (op / 10) as usize - 1;
     }
-    if op < 40 {
-        return 2;
-    }
-    3
+    7
 }
 
 fn word(block: &[u8], at: usize, i: usize) -> u64 {
@@ -47,7 +46,7 @@ fn agrees(block: &[u8], at: usize, answers: Answers) -> bool {
 
 fn counted(counts: Counts, module: usize, agrees: bool) -> Counts {
     let mut c = counts;
-    if module < 4 {
+    if module < 8 {
         c.cases[module] = wrapping_add_u64(c.cases[module], 1);
         c.all = wrapping_add_u64(c.all, 1);
         if !agrees {
@@ -61,39 +60,57 @@ fn counted(counts: Counts, module: usize, agrees: bool) -> Counts {
 }
 
 struct Done {
-    states: States,
+    quantities: quantities::States,
+    delay: delay::States,
     counts: Counts,
 }
 
-fn one(states: States, counts: Counts, block: &[u8], at: usize) -> Done {
+fn inputs(block: &[u8], at: usize) -> Inputs {
+    Inputs {
+        a: word(block, at, 8),
+        b: word(block, at, 16),
+        c: word(block, at, 24),
+        d: word(block, at, 32),
+        e: word(block, at, 40),
+    }
+}
+
+fn one(done: Done, block: &[u8], at: usize) -> Done {
     let op = word(block, at, 0);
-    let ran = states.run(
-        op,
-        Inputs {
-            a: word(block, at, 8),
-            b: word(block, at, 16),
-            c: word(block, at, 24),
-            d: word(block, at, 32),
-        },
-    );
-    let states = ran.states;
-    let answers = ran.answers;
-    let ok = agrees(block, at, answers);
+    let i = inputs(block, at);
+    let quantities = done.quantities;
+    let delay = done.delay;
+    let counts = done.counts;
+    if (op >= 50) & (op < 80) {
+        let ran = delay.run(op, i);
+        let delay = ran.states;
+        let ok = agrees(block, at, ran.answers);
+        let counts = counted(counts, module(op), ok);
+        return Done {
+            quantities,
+            delay,
+            counts,
+        };
+    }
+    let ran = quantities.run(op, i);
+    let quantities = ran.states;
+    let ok = agrees(block, at, ran.answers);
     let counts = counted(counts, module(op), ok);
-    Done { states, counts }
+    Done {
+        quantities,
+        delay,
+        counts,
+    }
 }
 
 fn many(done: Done, block: &[u8], n: usize) -> Done {
-    let mut states = done.states;
-    let mut counts = done.counts;
+    let mut done = done;
     let mut at = 0;
     for _ in 0..n {
-        let next = one(states, counts, block, at);
-        states = next.states;
-        counts = next.counts;
+        done = one(done, block, at);
         at = wrapping_add_usize(at, 96);
     }
-    Done { states, counts }
+    done
 }
 
 fn line(name: &[u8], cases: u64, wrong: u64) {
@@ -110,6 +127,10 @@ fn report(c: Counts) {
     line(b"average", c.cases[1], c.wrong[1]);
     line(b"acked_bitrate_estimator", c.cases[2], c.wrong[2]);
     line(b"arrival_group", c.cases[3], c.wrong[3]);
+    line(b"trendline", c.cases[4], c.wrong[4]);
+    line(b"rate_control", c.cases[5], c.wrong[5]);
+    line(b"control", c.cases[6], c.wrong[6]);
+    line(b"bandwidth", c.cases[7], c.wrong[7]);
     if c.first != 0 {
         line(b"first", c.first, 0);
     }
@@ -117,13 +138,14 @@ fn report(c: Counts) {
 
 fn main() {
     let counts = Counts {
-        cases: [0; 4],
-        wrong: [0; 4],
+        cases: [0; 8],
+        wrong: [0; 8],
         all: 0,
         first: 0,
     };
     let mut done = Done {
-        states: States::new(),
+        quantities: quantities::States::new(),
+        delay: delay::States::new(),
         counts,
     };
     for _ in 0..1_000_000_000u64 {

@@ -5,10 +5,10 @@ use Rattle.replay.proofs.many.Statement.{statement}
 use Rattle.replay.proofs.many.Tie as tie
 
 abbrev Inv-loop : tie.InvT-loop
-Inv-loop block n states₀ counts₀ at₀ counter₀ states counts at counter = counter ≤ n
+Inv-loop block n done₀ at₀ counter₀ done at counter = counter ≤ n
 
 abbrev μ-loop : tie.MeasureT-loop
-μ-loop block n states₀ counts₀ at₀ counter₀ states counts at counter = n - counter
+μ-loop block n done₀ at₀ counter₀ done at counter = n - counter
 
 pub many-spec : {M : Type 1} → statement M
 many-spec =

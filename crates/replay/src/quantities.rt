@@ -1,4 +1,13 @@
-// The operations of tools/oracle/drive.rs, on our side.
+// The operations of tools/oracle/drive.rs on times, rates and sizes, averages, the acknowledged rate and groups, on our side.
+use crate::cases::Answers;
+use crate::cases::Inputs;
+use crate::cases::delta;
+use crate::cases::delta_ns;
+use crate::cases::delta_tag;
+use crate::cases::flag;
+use crate::cases::rate;
+use crate::cases::rate_bits;
+use crate::cases::words;
 use acked_bitrate_estimator::AckedBitrateEstimator;
 use arrival_group::Accumulated;
 use arrival_group::ArrivalGroupAccumulator;
@@ -12,17 +21,6 @@ use time::Ordering;
 use time::TimeDelta;
 use time::Timestamp;
 
-pub struct Answers {
-    pub w: [u64; 6],
-}
-
-pub struct Inputs {
-    pub a: u64,
-    pub b: u64,
-    pub c: u64,
-    pub d: u64,
-}
-
 pub struct States {
     pub average: MovingAverage,
     pub acked: AckedBitrateEstimator,
@@ -32,48 +30,6 @@ pub struct States {
 pub struct Ran {
     pub states: States,
     pub answers: Answers,
-}
-
-fn words(a: u64, b: u64, c: u64, d: u64, e: u64, f: u64) -> Answers {
-    Answers {
-        w: [a, b, c, d, e, f],
-    }
-}
-
-// A bit of a word.
-fn flag(b: bool, bit: u64) -> u64 {
-    if b { bit } else { 0 }
-}
-
-fn delta(tag: u64, n: u64) -> TimeDelta {
-    if tag == 0 {
-        return TimeDelta::NegativeInfinity;
-    }
-    if tag == 1 {
-        return TimeDelta::Negative(n);
-    }
-    if tag == 2 {
-        return TimeDelta::Positive(n);
-    }
-    TimeDelta::PositiveInfinity
-}
-
-fn delta_tag(d: TimeDelta) -> u64 {
-    match d {
-        TimeDelta::NegativeInfinity => 0,
-        TimeDelta::Negative(_) => 1,
-        TimeDelta::Positive(_) => 2,
-        TimeDelta::PositiveInfinity => 3,
-    }
-}
-
-fn delta_ns(d: TimeDelta) -> u64 {
-    match d {
-        TimeDelta::NegativeInfinity => 0,
-        TimeDelta::Negative(n) => n,
-        TimeDelta::Positive(n) => n,
-        TimeDelta::PositiveInfinity => 0,
-    }
 }
 
 fn delta_words(d: TimeDelta) -> Answers {
@@ -110,10 +66,6 @@ fn size(n: u64) -> DataSize {
     DataSize((n % 0x8000_0000_0000_0000) as i64)
 }
 
-fn of_rate(b: Bitrate) -> Answers {
-    words(float_bits::to_bits(b.as_f64()), 0, 0, 0, 0, 0)
-}
-
 fn compare(a: TimeDelta, b: TimeDelta) -> Answers {
     words(
         order_number(a.cmp(b)),
@@ -147,7 +99,7 @@ fn stamps(op: u64, s: Timestamp, b: TimeDelta, t: Timestamp, n: u64) -> Answers 
     delta_words(s.since_instant(n))
 }
 
-fn deltas(op: u64, a: TimeDelta, b: TimeDelta, d: u64, n: u64) -> Answers {
+fn deltas(op: u64, a: TimeDelta, b: TimeDelta, n: u64) -> Answers {
     if op == 1 {
         return delta_words(a.add(b));
     }
@@ -164,23 +116,42 @@ fn deltas(op: u64, a: TimeDelta, b: TimeDelta, d: u64, n: u64) -> Answers {
         return words(float_bits::to_bits(a.as_secs_f64()), 0, 0, 0, 0, 0);
     }
     if op == 13 {
-        return of_rate(time::rate(size(n), a));
+        return words(rate_bits(time::rate(size(n), a)), 0, 0, 0, 0, 0);
     }
-    if op == 14 {
-        let c = TimeDelta::from(n);
+    let c = TimeDelta::from(n);
+    words(
+        flag(a.eq(c), 1),
+        flag(a.lt(c), 1),
+        flag(a.le(c), 1),
+        0,
+        0,
+        0,
+    )
+}
+
+fn bandwidth_words(op: u64, i: Inputs) -> Answers {
+    if op == 80 {
+        let a = rate(i.a);
+        let b = rate(i.b);
         return words(
-            flag(a.eq(c), 1),
-            flag(a.lt(c), 1),
-            flag(a.le(c), 1),
-            0,
+            rate_bits(a.clamp(rate(i.c), rate(i.d))),
+            rate_bits(a.mul(b.as_f64())),
+            flag(a.lt(b), 1),
+            rate_bits(Bitrate::bps(i.e)),
             0,
             0,
         );
     }
-    if op == 15 {
-        return of_rate(size(n).div(d));
-    }
-    of_rate(Bitrate::bps(d).mul(float_bits::from_bits(n)))
+    let a = size(i.a);
+    let b = size(i.b);
+    words(
+        float_bits::to_bits(a.as_bytes_f64()),
+        flag(a.lt(b), 1),
+        flag(a.add(b).lt(size(i.c)), 1),
+        rate_bits(a.div(i.d)),
+        0,
+        0,
+    )
 }
 
 fn is_some(x: OptionF64) -> bool {
@@ -281,12 +252,12 @@ fn next_groups(op: u64, g: ArrivalGroupAccumulator, i: Inputs) -> Accumulated {
 
 fn time_words(op: u64, i: Inputs) -> Answers {
     if op < 6 {
-        return deltas(op, delta(i.a, i.b), delta(i.c, i.d), i.b, i.c);
+        return deltas(op, delta(i.a, i.b), delta(i.c, i.d), i.c);
     }
     if op < 13 {
         return stamps(op, stamp(i.a, i.b), delta(i.c, i.d), stamp(i.c, i.d), i.c);
     }
-    deltas(op, delta(i.a, i.b), delta(i.c, i.d), i.b, i.c)
+    deltas(op, delta(i.a, i.b), delta(i.c, i.d), i.c)
 }
 
 impl States {
@@ -359,6 +330,12 @@ impl States {
         if op < 40 {
             return self.run_acked(op, i);
         }
-        self.run_groups(op, i)
+        if op < 50 {
+            return self.run_groups(op, i);
+        }
+        Ran {
+            states: self,
+            answers: bandwidth_words(op, i),
+        }
     }
 }
