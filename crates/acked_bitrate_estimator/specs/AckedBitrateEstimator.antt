@@ -21,7 +21,7 @@ use Rattle.acked_bitrate_estimator.specs.declared.Weighed.{Weighed}
 use Rattle.acked_bitrate_estimator.specs.declared.OptionSample.{OptionSample}
 use Rattle.acked_bitrate_estimator.specs.declared.OptionSample.the-variants as Sample
 
--- ---- constants, by their Rust names; the last three stand in its code
+-- ---- constants, by their Rust names
 abbrev pub smallSampleThreshold : DataSize
 smallSampleThreshold = B.bytes (pos 2000)
 
@@ -34,6 +34,7 @@ uncertainty = lit 0x4024_0000_0000_0000
 abbrev pub estimateFloor : Float
 estimateFloor = lit 0x40e3_8800_0000_0000
 
+-- without a name in the Rust
 abbrev pub initialEstimateVar : Float
 initialEstimateVar = lit 0x4049_0000_0000_0000
 

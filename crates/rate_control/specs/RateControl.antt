@@ -45,7 +45,7 @@ defaultBackoffTime = 100000000
 abbrev pub observedBitrateResetThresholdStd : Float
 observedBitrateResetThresholdStd = lit 0x4008_0000_0000_0000
 
--- these stand in its code
+-- without a name in the Rust
 abbrev pub half : Float
 half = lit 0x3fe0_0000_0000_0000
 

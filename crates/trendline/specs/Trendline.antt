@@ -55,7 +55,7 @@ minDelayCount = 60
 abbrev pub maxDelayCount : ℕ
 maxDelayCount = 1000
 
--- these stand in its code
+-- without a name in the Rust
 abbrev pub one : Float
 one = lit 0x3ff0_0000_0000_0000
 
