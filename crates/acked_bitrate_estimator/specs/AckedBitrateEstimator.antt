@@ -34,6 +34,13 @@ uncertainty = lit 0x4024_0000_0000_0000
 abbrev pub estimateFloor : Float
 estimateFloor = lit 0x40e3_8800_0000_0000
 
+-- without a name in the Rust
+abbrev pub initialEstimateVar : Float
+initialEstimateVar = lit 0x4049_0000_0000_0000
+
+abbrev pub estimateVarIncrease : Float
+estimateVarIncrease = lit 0x4014_0000_0000_0000
+
 abbrev pub none : DataSize
 none = B.bytes (pos 0)
 
@@ -43,7 +50,7 @@ new initial window =
       «initial_window» = initial;
       window = window;
       estimate = Rate.None;
-      «estimate_var» = lit 0x4049_0000_0000_0000;
+      «estimate_var» = initialEstimateVar;
       sum = none;
       «current_window» = 0;
       «last_update» = Instant.None;
@@ -84,7 +91,7 @@ unfoldable pub weigh : Float → Float → Float → Bool → Weighed
 weigh estimate variance value small =
     let u = sampleUncertainty small estimate value in
     let sampleVar = mul u u in
-    let predVar = add variance (lit 0x4014_0000_0000_0000) in
+    let predVar = add variance estimateVarIncrease in
     record {
       estimate = ofInt binary64 (pos (toUnsigned 64 (ceil (max (mean sampleVar predVar estimate value) estimateFloor))));
       variance = div (mul sampleVar predVar) (add sampleVar predVar);

@@ -11,7 +11,7 @@ use lib.Signed.{leZ}
 use lib.Ieee.{Float, binary64, le, eq, lt, isNan, fits}
 use lib.Ieee.Bits.{ofBits-fits}
 use lib.Ieee.Fits.{add-fits, mul-fits, div-fits, ofInt-fits}
-use Rattle.float_order.specs.Binary64.{add, sub, mul, lit}
+use Rattle.float_order.specs.Binary64.{add, sub, mul, lit, decimal}
 use Rattle.float_order.specs.Order.{le-trans, eq→le}
 use Rattle.float_order.specs.Ops.{zero₊}
 use Rattle.float_order.specs.Range.{In, Within, nat, in-no-nan, in-closed, in-wider, lit-in, add-in, sub-in, mul-in, div-in, square-in}
@@ -35,7 +35,7 @@ use Rattle.acked_bitrate_estimator.specs.declared.AckedBitrateEstimator.
 use Rattle.acked_bitrate_estimator.specs.declared.Window.{Window}
 use Rattle.acked_bitrate_estimator.specs.declared.OptionSample.{OptionSample}
 use Rattle.acked_bitrate_estimator.specs.declared.OptionSample.the-variants as Sample
-use Rattle.acked_bitrate_estimator.specs.AckedBitrateEstimator.{smallSampleThreshold, none, new, remaining, advance, sample, withPacket, scale, sampleUncertainty, mean, estimateFloor, weigh, withWindow, withEstimate, estimateFrom, withSample, windowFor, windowLength, currentWindow, filled, updateSince, update}
+use Rattle.acked_bitrate_estimator.specs.AckedBitrateEstimator.{smallSampleThreshold, none, new, remaining, advance, sample, withPacket, scale, sampleUncertainty, mean, estimateFloor, estimateVarIncrease, weigh, withWindow, withEstimate, estimateFrom, withSample, windowFor, windowLength, currentWindow, filled, updateSince, update}
 use Rattle.acked_bitrate_estimator.specs.Mean.{mean-in, variance-in}
 
 -- ---- the claims
@@ -57,9 +57,12 @@ pub record ValidWindow (ns : ℕ) : Type 0 where
   pub least : 10 ^ 6 ≤ ns
   pub most : ns ≤ 10 ^ 10
 
+abbrev pub leastRate : Float
+leastRate = lit 0x3fe9_9999_9999_999a
+
 -- from 0.8, 1 byte in 10 s, to 2 ^ 44, which 2,147,483,647 bytes in 1 ms stay below
 pub record ValidRate (x : Float) : Type 0 where
-  pub range : In (lit 0x3fe9_9999_9999_999a) (two^ 44) x
+  pub range : In leastRate (two^ 44) x
   pub held : T (fits binary64 x)
 
 abbrev pub ValidEstimate : OptionBitrate → Type 0
@@ -89,10 +92,7 @@ pub record Reached (a : AckedBitrateEstimator) : Type 0 where
 
 -- ---- a sample
 abbrev millisecond : Float
-millisecond = lit 0x3f50_624d_d2f1_a9fc
-
-abbrev eight : Float
-eight = lit 0x4020_0000_0000_0000
+millisecond = decimal 1 1000
 
 secs-valid : (w : ℕ) → ValidWindow w → In millisecond (nat 10) (asSecsF64 w)
 secs-valid w h =
@@ -109,9 +109,9 @@ rate-valid : (n w : ℕ) → 1 ≤ n → n ≤ mostBytes → ValidWindow w → V
 unfolding B.perSecs
 rate-valid n w l m h =
     let s = secs-valid w h in
-    let b : In (nat 8) (nat (8 * mostBytes)) (mul (B.asBytesF64 (B.bytes (pos n))) eight) = mul-in (ofInt-in {lo = nat 1} {hi = nat mostBytes} 1 mostBytes n l m (unfold floats in tt)) (lit-in eight (unfold floats in tt)) (unfold floats in tt) in
+    let b : In (nat 8) (nat (8 * mostBytes)) (mul (B.asBytesF64 (B.bytes (pos n))) B.bitsPerByte) = mul-in (ofInt-in {lo = nat 1} {hi = nat mostBytes} 1 mostBytes n l m (unfold floats in tt)) (lit-in B.bitsPerByte (unfold floats in tt)) (unfold floats in tt) in
     rw (no-zero (asSecsF64 w) (s .low))
-    (record { range = div-in b s (unfold floats in tt); held = div-fits binary64 (mul (B.asBytesF64 (B.bytes (pos n))) eight) (asSecsF64 w) })
+    (record { range = div-in b s (unfold floats in tt); held = div-fits binary64 (mul (B.asBytesF64 (B.bytes (pos n))) B.bitsPerByte) (asSecsF64 w) })
 
 -- ---- the window
 abbrev empty : Window
@@ -203,9 +203,6 @@ packet-reached w s length l h k = go (ltb (w .elapsed) length) refl
     go false t = joined none s (w .elapsed - length) none-valid k (omega (arith, ltb-false (w .elapsed) length t, l .least, h .elapsed))
 
 -- ---- the estimate
-abbrev five : Float
-five = lit 0x4014_0000_0000_0000
-
 -- a sample's variance is 2 ^ 98 at most: (25 * 2 ^ 44 / 0.8) ^ 2
 module _ (small : Bool) (e s : Float) (he : ValidRate e) (hs : ValidRate s) where
   scale-in : In zero₊ (nat 25) (scale small e s)
@@ -223,16 +220,16 @@ module _ (e var s : Float) (small : Bool) (he : ValidRate e) (hvar : ValidVarian
   abbrev u : Float
   u = sampleUncertainty small e s
 
-  predVar-in : In (nat 5) (two^ 100) (add var five)
-  predVar-in = add-in (hvar .range) (lit-in five (unfold floats in tt)) (unfold floats in tt)
+  predVar-in : In (nat 5) (two^ 100) (add var estimateVarIncrease)
+  predVar-in = add-in (hvar .range) (lit-in estimateVarIncrease (unfold floats in tt)) (unfold floats in tt)
 
   -- the weighed estimate is 40,000 at least
   pub weigh-estimate : In (nat 40000) (two^ 44) (weigh e var s small .estimate)
   unfolding weigh
   weigh-estimate =
-      let M : In zero₊ (two^ 44) (mean (mul u u) (add var five) e s) = mean-in (mul u u) (add var five) 100 44 (mul-fits binary64 u u) (add-fits binary64 var five) (omega arith) (in-wider (sampleVar-in small e s he hs) (unfold floats in tt)) (in-wider predVar-in (unfold floats in tt)) e s (in-wider (he .range) (unfold floats in tt)) (in-wider (hs .range) (unfold floats in tt)) in
-      let f : In (nat 40000) (two^ 44) (max (mean (mul u u) (add var five) e s) estimateFloor) = max-in M (lit-in estimateFloor (unfold floats in tt)) (unfold floats in tt) in
-      let c : In (nat 40000) (nat (2 ^ 44)) (ceil (max (mean (mul u u) (add var five) e s) estimateFloor)) = in-wider (ceil-at f) (unfold helpers in tt) in
+      let M : In zero₊ (two^ 44) (mean (mul u u) (add var estimateVarIncrease) e s) = mean-in (mul u u) (add var estimateVarIncrease) 100 44 (mul-fits binary64 u u) (add-fits binary64 var estimateVarIncrease) (omega arith) (in-wider (sampleVar-in small e s he hs) (unfold floats in tt)) (in-wider predVar-in (unfold floats in tt)) e s (in-wider (he .range) (unfold floats in tt)) (in-wider (hs .range) (unfold floats in tt)) in
+      let f : In (nat 40000) (two^ 44) (max (mean (mul u u) (add var estimateVarIncrease) e s) estimateFloor) = max-in M (lit-in estimateFloor (unfold floats in tt)) (unfold floats in tt) in
+      let c : In (nat 40000) (nat (2 ^ 44)) (ceil (max (mean (mul u u) (add var estimateVarIncrease) e s) estimateFloor)) = in-wider (ceil-at f) (unfold helpers in tt) in
       ofInt-in 40000 (2 ^ 44) _ (toUnsigned-ge 64 40000 (omega arith) tt c) (toUnsigned-le 64 (2 ^ 44) tt c) (unfold floats in tt)
 
   weigh-variance : ValidVariance (weigh e var s small .variance)
@@ -240,8 +237,8 @@ module _ (e var s : Float) (small : Bool) (he : ValidRate e) (hvar : ValidVarian
   weigh-variance =
       let v = sampleVar-in small e s he hs in
       record {
-        range = in-wider (variance-in (mul u u) (add var five) 100 98 (mul-fits binary64 u u) (add-fits binary64 var five) (omega arith) (in-wider v (unfold floats in tt)) (in-wider predVar-in (unfold floats in tt)) v) (unfold floats in tt);
-        held = div-fits binary64 (mul (mul u u) (add var five)) (add (mul u u) (add var five));
+        range = in-wider (variance-in (mul u u) (add var estimateVarIncrease) 100 98 (mul-fits binary64 u u) (add-fits binary64 var estimateVarIncrease) (omega arith) (in-wider v (unfold floats in tt)) (in-wider predVar-in (unfold floats in tt)) v) (unfold floats in tt);
+        held = div-fits binary64 (mul (mul u u) (add var estimateVarIncrease)) (add (mul u u) (add var estimateVarIncrease));
       }
 
   weigh-rate : ValidRate (weigh e var s small .estimate)
@@ -316,7 +313,7 @@ new-reached initial window i w =
       later = w;
       current = empty-reached;
       estimate = tt;
-      variance = record { range = in-closed (unfold floats in tt); held = ofBits-fits binary64 0x4049_0000_0000_0000 };
+      variance = record { range = in-closed (unfold floats in tt); held = ofBits-fits binary64 _ };
     }
 
 -- a packet of at least 1 byte, at any instant, if the window's sum stays within its limit

@@ -2,3 +2,4 @@ pub mod AckedBitrateEstimator
 pub mod Rows
 pub mod Mean
 pub mod Laws
+pub mod Constants

@@ -3,7 +3,7 @@ use mathlib.Core.Path.{_≡_, refl}
 use mathlib.Core.Bool.{Bool, true, false}
 use Prim.Native.Nat.{ℕ, _*_}
 use lib.IntN.{pos}
-use Rattle.float_order.specs.Binary64.{lit}
+use Rattle.float_order.specs.Binary64.{decimal}
 use Rattle.float_order.specs.Interval.{floats}
 use Rattle.seconds.specs.Seconds.{asSecsF64}
 use Rattle.bandwidth.specs.Bandwidth as B
@@ -30,10 +30,10 @@ steps = true
 -- packets at 0, 499 and 500 ms: a sample of 32,000 that is not small
 pub sample-at-500 :
     let a = received (received fresh 0) 499 in
-    sample (advance (currentWindow a) (ms 1) (ms 500)) (ms 500) ≡ Sample.Some (B.rate (lit 0x40df_4000_0000_0000)) false
+    sample (advance (currentWindow a) (ms 1) (ms 500)) (ms 500) ≡ Sample.Some (B.rate (decimal 32000 1)) false
 sample-at-500 = unfold steps in refl
 
-pub estimate-at-500 : received (received (received fresh 0) 499) 500 .estimate ≡ Rate.Some (B.rate (lit 0x40df_4000_0000_0000))
+pub estimate-at-500 : received (received (received fresh 0) 499) 500 .estimate ≡ Rate.Some (B.rate (decimal 32000 1))
 estimate-at-500 = unfold steps in refl
 
 -- packets at 0 and 500 ms only: no sample

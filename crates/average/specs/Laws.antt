@@ -30,11 +30,23 @@ pub record Limits (factor L : Float) : Type 0 where
   pub limit-fits : T (fits binary64 L)
 
 -- the two in use: rates to 10 ^ 14 with 0.95, round trips to 10 ^ 9 s with 0.125
-pub rates : Limits (lit 0x3fee_6666_6666_6666) (lit 0x42d6_bcc4_1e90_0000)
-rates = record { factor-in = in-closed (unfold floats in tt); limit-in = in-closed (unfold floats in tt); limit-fits = ofBits-fits binary64 0x42d6_bcc4_1e90_0000 }
+abbrev pub observedBitRateSmoothingFactor : Float
+observedBitRateSmoothingFactor = lit 0x3fee_6666_6666_6666
 
-pub round-trips : Limits (lit 0x3fc0_0000_0000_0000) (lit 0x41cd_cd65_0000_0000)
-round-trips = record { factor-in = in-closed (unfold floats in tt); limit-in = in-closed (unfold floats in tt); limit-fits = ofBits-fits binary64 0x41cd_cd65_0000_0000 }
+abbrev pub mostRate : Float
+mostRate = lit 0x42d6_bcc4_1e90_0000
+
+abbrev pub rttSmoothingFactor : Float
+rttSmoothingFactor = lit 0x3fc0_0000_0000_0000
+
+abbrev pub mostRoundTrip : Float
+mostRoundTrip = lit 0x41cd_cd65_0000_0000
+
+pub rates : Limits observedBitRateSmoothingFactor mostRate
+rates = record { factor-in = in-closed (unfold floats in tt); limit-in = in-closed (unfold floats in tt); limit-fits = ofBits-fits binary64 _ }
+
+pub round-trips : Limits rttSmoothingFactor mostRoundTrip
+round-trips = record { factor-in = in-closed (unfold floats in tt); limit-in = in-closed (unfold floats in tt); limit-fits = ofBits-fits binary64 _ }
 
 -- the largest float that is not above 10 ^ 30
 abbrev pub mostVariance : Float

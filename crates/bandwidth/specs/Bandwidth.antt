@@ -11,6 +11,9 @@ use Rattle.seconds.specs.Seconds.{asSecsF64}
 use Rattle.bandwidth.specs.declared.Bitrate.{Bitrate}
 use Rattle.bandwidth.specs.declared.DataSize.{DataSize}
 
+abbrev pub bitsPerByte : Float
+bitsPerByte = lit 0x4020_0000_0000_0000
+
 -- ---- Bitrate
 abbrev pub rate : Float → Bitrate
 rate x = record { 0 = x }
@@ -56,7 +59,7 @@ addSize a b = bytes (saturatingAdd (a .0) (b .0))
 
 -- bits over seconds, each operation rounded, and 0 where the seconds are a zero
 unfoldable pub perSecs : DataSize → Float → Bitrate
-perSecs s secs = rate (cond (Ieee.eq secs (lit 0)) (lit 0) (div (times (asBytesF64 s) (lit 0x4020_0000_0000_0000)) secs))
+perSecs s secs = rate (cond (Ieee.eq secs (lit 0)) (lit 0) (div (times (asBytesF64 s) bitsPerByte) secs))
 
 abbrev pub perDuration : DataSize → ℕ → Bitrate
 perDuration s d = perSecs s (asSecsF64 d)

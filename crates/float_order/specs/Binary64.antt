@@ -1,5 +1,7 @@
 -- The operations of binary64 by short names, for definitions: each rounds once. A literal of the code stands by its bits.
 use Prim.Native.Nat.{ℕ}
+use mathlib.Core.Path.{_≡_, refl}
+use mathlib.Core.Bool.{false}
 use lib.Ieee as Ieee
 use lib.Ieee.{Float, binary64}
 
@@ -17,3 +19,10 @@ div x y = Ieee.div binary64 x y
 
 abbrev pub lit : ℕ → Float
 lit b = Ieee.ofBits binary64 b
+
+-- n / d rounded once: `decimal 85 100` is 0.85
+abbrev pub decimal : ℕ → ℕ → Float
+decimal n d = Ieee.round binary64 false n d
+
+pub zero-is : lit 0 ≡ decimal 0 1
+zero-is = unfold Ieee.ofBits Ieee.round in refl

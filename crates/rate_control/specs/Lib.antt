@@ -1,2 +1,3 @@
 pub mod RateControl
+pub mod Constants
 pub mod Rows

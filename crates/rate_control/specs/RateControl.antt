@@ -42,6 +42,10 @@ maxEstimateRatio = lit 0x3ff8_0000_0000_0000
 abbrev pub defaultBackoffTime : ℕ
 defaultBackoffTime = 100000000
 
+abbrev pub observedBitrateResetThresholdStd : Float
+observedBitrateResetThresholdStd = lit 0x4008_0000_0000_0000
+
+-- without a name in the Rust
 abbrev pub half : Float
 half = lit 0x3fe0_0000_0000_0000
 
@@ -53,6 +57,15 @@ three = lit 0x4008_0000_0000_0000
 
 abbrev pub thousand : Float
 thousand = lit 0x408f_4000_0000_0000
+
+abbrev pub framesPerSecond : Float
+framesPerSecond = lit 0x403e_0000_0000_0000
+
+abbrev pub packetBytes : Float
+packetBytes = lit 0x4092_c000_0000_0000
+
+abbrev pub increaseLimitMargin : Float
+increaseLimitMargin = lit 0x40c3_8800_0000_0000
 
 -- ---- signals and states
 unfoldable pub signal : BandwidthUsage → Signal
@@ -147,7 +160,7 @@ resetUnder F64.None m value = m
 resetUnder (F64.Some lower) m value = cond (Ieee.lt value lower) (Average.reset m) m
 
 unfoldable pub resetBelow : MovingAverage → Float → MovingAverage
-resetBelow m value = resetUnder (Average.lowerRange m three) m value
+resetBelow m value = resetUnder (Average.lowerRange m observedBitrateResetThresholdStd) m value
 
 abbrev pub resetOver : OptionF64 → MovingAverage → Float → MovingAverage
 resetOver F64.None m value = m
@@ -188,11 +201,11 @@ isNearConvergence c = nearAt (c .«last_observed_bitrate») (c .«averaged_obser
 
 -- what a frame's bits are divided by: 1200 / 8, where the draft has 1200 * 8
 abbrev pub packetSizeDivisor : Float
-packetSizeDivisor = div (lit 0x4092_c000_0000_0000) (lit 0x4020_0000_0000_0000)
+packetSizeDivisor = div packetBytes B.bitsPerByte
 
 unfoldable pub estimatedPacketSize : Bitrate → Float
 estimatedPacketSize b =
-    let bitsPerFrame = div (b .0) (lit 0x403e_0000_0000_0000) in
+    let bitsPerFrame = div (b .0) framesPerSecond in
     div bitsPerFrame (ceil (div bitsPerFrame packetSizeDivisor))
 
 -- seconds of a round trip and 100 ms, which are added first
@@ -214,7 +227,7 @@ raised c since = cond (isNearConvergence c) (additiveIncrease c since) (multipli
 
 -- one and a half times the observed rate, plus 10 kbps
 abbrev pub increaseLimit : Float → Float
-increaseLimit observed = add (mul observed maxEstimateRatio) (lit 0x40c3_8800_0000_0000)
+increaseLimit observed = add (mul observed maxEstimateRatio) increaseLimitMargin
 
 unfoldable pub increase : RateControl → Bitrate → ℕ → RateControl
 increase c observed now =

@@ -1,15 +1,29 @@
--- Rows of the definitions, computed: the infinities, negative zero, the limit, division.
-use Prim.Native.Nat.{_+_, _*_, _^_}
+-- Rows of the definitions, computed: lengths of whole seconds and ms, the infinities, negative zero, the limit, division.
+use Prim.Native.Nat.{_+_, _-_, _*_, _^_}
 use mathlib.Core.Path.{_≡_, refl}
 use mathlib.Core.Bool.{Bool, true}
+use lib.IntN.{pos, negsuc}
 use Rattle.time.specs.declared.Timestamp.the-variants.{DistantPast, Exact, DistantFuture}
 use Rattle.time.specs.declared.TimeDelta.the-variants.{NegativeInfinity, Negative, Positive, PositiveInfinity}
-use Rattle.time.specs.Time.{positive, negative, exact, limited, limitedInstant, neg, difference, addLimited, add, sub, addLimitedDelta, addDelta, subDelta, sinceLimited, since, divLimited, div}
+use Rattle.time.specs.Time.{positive, negative, units, fromSecs, fromMillis, exact, limited, limitedInstant, neg, difference, addLimited, add, sub, addLimitedDelta, addDelta, subDelta, sinceLimited, since, divLimited, div}
 
 -- `unfold operations in refl` opens every operation
 unfoldable operations : Bool
-unfolding positive negative exact limited limitedInstant neg difference addLimited add sub addLimitedDelta addDelta subDelta sinceLimited since divLimited div
+unfolding positive negative units exact limited limitedInstant neg difference addLimited add sub addLimitedDelta addDelta subDelta sinceLimited since divLimited div
 operations = true
+
+minus-one-second : fromSecs (negsuc 0) ≡ Negative (10 ^ 9)
+minus-one-second = unfold operations in refl
+
+longest-millis : fromMillis (pos (4 * 10 ^ 12)) ≡ Positive (4 * 10 ^ 18)
+longest-millis = unfold operations in refl
+
+above-limit-millis : fromMillis (pos (4 * 10 ^ 12 + 1)) ≡ PositiveInfinity
+above-limit-millis = unfold operations in refl
+
+-- the least i64, where the Rust overflows
+least-seconds : fromSecs (negsuc (2 ^ 63 - 1)) ≡ NegativeInfinity
+least-seconds = unfold operations in refl
 
 past-past : since DistantPast DistantPast ≡ PositiveInfinity
 past-past = unfold operations in refl

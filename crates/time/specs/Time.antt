@@ -1,7 +1,8 @@
 -- src/bwe/time.rs: what each operation on instants and lengths of time gives. Numbers are ns.
-use Prim.Native.Nat.{ℕ, _+_, _-_, _*_, _/_, _^_, _≤_, min}
+use Prim.Native.Nat.{ℕ, suc, _+_, _-_, _*_, _/_, _^_, _≤_, min}
 use mathlib.Core.Bool.{Bool, true, false, cond}
 use lib.Dec.{leb, ltb, eqb}
+use lib.IntN.{ℤ, pos, negsuc}
 use lib.Ieee as Ieee
 use lib.Ieee.{Float, inf}
 use Rattle.seconds.specs.Seconds as Seconds
@@ -34,6 +35,9 @@ saturatingDurationSince later earlier = later - earlier
 unfoldable pub saturatingAdd : ℕ → ℕ → ℕ
 saturatingAdd a b = min (a + b) (2 ^ 64 - 1)
 
+unfoldable pub saturatingMul : ℕ → ℕ → ℕ
+saturatingMul a b = min (a * b) (2 ^ 64 - 1)
+
 abbrev pub instantOr : OptionInstant → ℕ → ℕ
 instantOr Instant.None other = other
 instantOr (Instant.Some t) other = t
@@ -57,6 +61,17 @@ positive d = cond (leb d limit) (Positive d) PositiveInfinity
 
 unfoldable pub negative : ℕ → TimeDelta
 negative d = cond (leb d limit) (Negative d) NegativeInfinity
+
+-- so many units of ns, of either sign
+unfoldable pub units : ℤ → ℕ → TimeDelta
+units (pos n) ns = positive (n * ns)
+units (negsuc n) ns = negative (suc n * ns)
+
+abbrev pub fromSecs : ℤ → TimeDelta
+fromSecs secs = units secs (10 ^ 9)
+
+abbrev pub fromMillis : ℤ → TimeDelta
+fromMillis millis = units millis (10 ^ 6)
 
 unfoldable pub exact : ℕ → Timestamp
 exact t = cond (leb t limit) (Exact t) DistantFuture

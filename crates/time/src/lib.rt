@@ -1,6 +1,7 @@
 // src/bwe/time.rs: instants and lengths of time with their infinities. An instant and a duration are whole numbers of ns.
 // A finite length above MAX, given or computed, is the infinity of its sign; such an instant is `DistantFuture`, one below 0 `DistantPast`.
 ghost use mathlib.Core.Path.{_≡_};
+ghost use lib.IntN.{natAbs};
 ghost use Rattle.time.specs.Time as Time;
 use bandwidth::Bitrate;
 use bandwidth::DataSize;
@@ -68,6 +69,29 @@ pub fn saturating_add(a: u64, b: u64) -> u64
         return a + b;
     }
     18446744073709551615
+}
+
+// A product of ns; past the end of u64, that end.
+fn saturating_mul(a: u64, b: u64) -> u64
+    ensures { λ r. ⌜ r ≡ Time.saturatingMul a b ⌝ }
+{
+    if b == 0 {
+        return 0;
+    }
+    if a <= 18446744073709551615 / b {
+        return a * b;
+    }
+    18446744073709551615
+}
+
+// Rust's `i64::unsigned_abs`.
+fn unsigned_abs(n: i64) -> u64
+    ensures { λ r. ⌜ r ≡ natAbs n ⌝ }
+{
+    if n >= 0 {
+        return n as u64;
+    }
+    -(n + 1) as u64 + 1
 }
 
 // The instant, or another where there is none.
@@ -160,6 +184,29 @@ impl TimeDelta {
         TimeDelta::NegativeInfinity
     }
 
+    // So many units of ns, of either sign.
+    fn units(number: i64, ns: u64) -> Self
+        ensures { λ r. ⌜ r ≡ Time.units number ns ⌝ }
+    {
+        let duration = saturating_mul(unsigned_abs(number), ns);
+        if number >= 0 {
+            return TimeDelta::from(duration);
+        }
+        TimeDelta::minus(duration)
+    }
+
+    pub fn from_secs(secs: i64) -> Self
+        ensures { λ r. ⌜ r ≡ Time.fromSecs secs ⌝ }
+    {
+        TimeDelta::units(secs, 1_000_000_000)
+    }
+
+    pub fn from_millis(millis: i64) -> Self
+        ensures { λ r. ⌜ r ≡ Time.fromMillis millis ⌝ }
+    {
+        TimeDelta::units(millis, 1_000_000)
+    }
+
     // The limits above, put to a length that was given.
     fn limited(self) -> Self
         ensures { λ r. ⌜ r ≡ Time.limited self ⌝ }
@@ -207,6 +254,19 @@ impl TimeDelta {
         ensures { λ r. ⌜ r ≡ Time.le self other ⌝ }
     {
         self.place() <= other.place()
+    }
+
+    // Rust's `PartialEq<Duration>` and `PartialOrd<Duration>`.
+    pub fn eq_duration(self, other: u64) -> bool
+        ensures { λ r. ⌜ r ≡ Time.eq self (Time.positive other) ⌝ }
+    {
+        self.eq(TimeDelta::from(other))
+    }
+
+    pub fn cmp_duration(self, other: u64) -> Ordering
+        ensures { λ r. ⌜ r ≡ Time.cmp self (Time.positive other) ⌝ }
+    {
+        self.cmp(TimeDelta::from(other))
     }
 
     pub fn neg(self) -> Self

@@ -1,2 +1,3 @@
 pub mod Trendline
+pub mod Constants
 pub mod Rows

@@ -55,11 +55,24 @@ minDelayCount = 60
 abbrev pub maxDelayCount : ℕ
 maxDelayCount = 1000
 
+-- without a name in the Rust
 abbrev pub one : Float
 one = lit 0x3ff0_0000_0000_0000
 
 abbrev pub thousand : Float
 thousand = lit 0x408f_4000_0000_0000
+
+abbrev pub windowSize : Float
+windowSize = lit 0x4034_0000_0000_0000
+
+abbrev pub maxTimeDeltaMs : Float
+maxTimeDeltaMs = lit 0x4059_0000_0000_0000
+
+abbrev pub minThresholdMs : Float
+minThresholdMs = lit 0x4018_0000_0000_0000
+
+abbrev pub maxThresholdMs : Float
+maxThresholdMs = lit 0x4082_c000_0000_0000
 
 -- ---- the history
 -- how many of the first n times stand before a new one: equal times do
@@ -114,7 +127,7 @@ abbrev pub sums : List Float → List Float → Float → Float → Fit
 sums xs ys avgX avgY = sumsFrom (record { numerator = lit 0; denominator = lit 0 }) xs ys avgX avgY
 
 abbrev pub average : List Float → Float
-average xs = div (total xs) (lit 0x4034_0000_0000_0000)
+average xs = div (total xs) windowSize
 
 -- a denominator of 0 keeps the previous trend
 abbrev pub slope : Fit → Float → Float
@@ -155,12 +168,12 @@ gain absTrend threshold = cond (Ieee.lt absTrend threshold) kDown kUp
 
 abbrev pub moved : Float → Float → ℕ → Float
 moved absTrend threshold elapsed =
-    F.add threshold (mul (mul (gain absTrend threshold) (sub absTrend threshold)) (Float.min (ofInt binary64 (pos (elapsed / 1000000))) (lit 0x4059_0000_0000_0000)))
+    F.add threshold (mul (mul (gain absTrend threshold) (sub absTrend threshold)) (Float.min (ofInt binary64 (pos (elapsed / 1000000))) maxTimeDeltaMs))
 
 abbrev pub adapted : Float → Float → ℕ → Float
 adapted absTrend threshold elapsed =
     cond (Ieee.lt (F.add threshold maxAdoptOffsetMs) absTrend) threshold
-    (Float.clamp (moved absTrend threshold elapsed) (lit 0x4018_0000_0000_0000) (lit 0x4082_c000_0000_0000))
+    (Float.clamp (moved absTrend threshold elapsed) minThresholdMs maxThresholdMs)
 
 unfoldable pub threshold : Delays → Float → ℕ → Float
 threshold d modified elapsed = adapted (Float.abs modified) (d .«delay_threshold») elapsed
