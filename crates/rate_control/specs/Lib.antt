@@ -1,2 +1,3 @@
 pub mod RateControl
+pub mod Laws
 pub mod Rows
