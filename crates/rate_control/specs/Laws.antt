@@ -25,7 +25,7 @@ use Rattle.average.specs.declared.OptionF64.the-variants as F64
 use Rattle.average.specs.declared.MovingAverage.{MovingAverage}
 use Rattle.bandwidth.specs.Bandwidth as B
 use Rattle.bandwidth.specs.declared.Bitrate.{Bitrate}
-use Rattle.time.specs.Time.{saturatingDurationSince, instantOr, durationOrElse}
+use Rattle.time.specs.Time.{durationOrElse}
 use Rattle.time.specs.declared.OptionInstant.{OptionInstant}
 use Rattle.time.specs.declared.OptionInstant.the-variants as Instant
 use Rattle.time.specs.declared.OptionDuration.{OptionDuration}
@@ -146,16 +146,20 @@ setProbeResult-sound = updateEstimate-sound
 min-ordered : (x y : Float) → T (ordered x) → T (ordered (min x y))
 min-ordered x y p = le-ordered-l (min x y) x (min-le-l x y p)
 
-module _ (c : RateControl) (observed : Bitrate) (now : ℕ) (f : T (finite (observed .0))) (h : Sound c) where
-  scaled : T (ordered (mul (observed .0) maxEstimateRatio))
-  scaled = mul-ordered binary64 (observed .0) maxEstimateRatio f (unfold floats in tt)
+-- 1.5 times the observed rate
+abbrev ratio : Bitrate → Float
+ratio observed = mul (observed .0) maxEstimateRatio
 
+ratio-ordered : (observed : Bitrate) → T (finite (observed .0)) → T (ordered (ratio observed))
+ratio-ordered observed f = mul-ordered binary64 (observed .0) maxEstimateRatio f (unfold floats in tt)
+
+module _ (c : RateControl) (observed : Bitrate) (now : ℕ) (f : T (finite (observed .0))) (h : Sound c) where
   increase-sound : Sound (increase c observed now)
   unfolding increase withEstimate withAverage
   increase-sound =
       either Sound (le (increaseLimit (observed .0)) (estimate c)) _ _ (λ t. h)
       (updateEstimate-sound (withAverage c (resetAbove (c .«averaged_observed_bitrate») (observed .0))) _ now
-      (min-ordered _ (increaseLimit (observed .0)) (min-ordered (mul (observed .0) maxEstimateRatio) _ scaled)) h)
+      (min-ordered _ _ (min-ordered (ratio observed) _ (ratio-ordered observed f))) h)
 
   decrease-sound : Sound (decrease c observed now)
   unfolding decrease withState
@@ -197,24 +201,21 @@ le-limit (inf false) t p = unfold floats in tt
 le-limit (fin s m e) t p = le-add binary64 (fin s m e) (lit 0x40c3_8800_0000_0000) t tt (unfold floats in tt) (unfold floats in tt)
 
 module _ (c : RateControl) (observed : Bitrate) (now : ℕ) (f : T (finite (observed .0))) (h : Sound c) where
-  abbrev ratio : Float
-  ratio = mul (observed .0) maxEstimateRatio
-
   abbrev Reached : Float → Type 0
-  Reached x = AtLeastSmallest (plus (estimate c) 999) ratio (nat (10 ^ 10)) x
+  Reached x = AtLeastSmallest (plus (estimate c) 999) (ratio observed) (nat (10 ^ 10)) x
 
-  limit-high : T (le ratio (increaseLimit (observed .0)))
-  limit-high = le-limit ratio (mul-fits binary64 (observed .0) maxEstimateRatio) (scaled c observed now f h)
+  limit-high : T (le (ratio observed) (increaseLimit (observed .0)))
+  limit-high = le-limit (ratio observed) (mul-fits binary64 (observed .0) maxEstimateRatio) (ratio-ordered observed f)
 
   reached-le : (x y : Float) → T (le x y) → Reached x → Reached y
   reached-le x y g (inl r) = inl (le-trans (plus (estimate c) 999) x y r g)
-  reached-le x y g (inr (inl r)) = inr (inl (le-trans ratio x y r g))
+  reached-le x y g (inr (inl r)) = inr (inl (le-trans (ratio observed) x y r g))
   reached-le x y g (inr (inr r)) = inr (inr (le-trans (nat (10 ^ 10)) x y r g))
 
-  reached-min : (r : Float) → T (le (plus (estimate c) 999) r) → Reached (min (min ratio r) (increaseLimit (observed .0)))
+  reached-min : (r : Float) → T (le (plus (estimate c) 999) r) → Reached (min (min (ratio observed) r) (increaseLimit (observed .0)))
   reached-min r g =
-      min-either Reached (min ratio r) (increaseLimit (observed .0))
-      (min-either Reached ratio r (inr (inl (le-refl ratio (scaled c observed now f h)))) (inl g)) (inr (inl limit-high))
+      min-either Reached (min (ratio observed) r) (increaseLimit (observed .0))
+      (min-either Reached (ratio observed) r (inr (inl (le-refl (ratio observed) (ratio-ordered observed f)))) (inl g)) (inr (inl limit-high))
 
   reached-clamp : (x : Float) → T (ordered x) → Reached x → Reached (clamp x (minEstimate .0) (maxEstimate .0))
   reached-clamp x p r =
@@ -229,8 +230,8 @@ module _ (c : RateControl) (observed : Bitrate) (now : ℕ) (f : T (finite (obse
   unfolding increase updateEstimate withEstimate withAverage B.clamp
   increase-high =
       either (λ (x : RateControl). Reached (estimate x)) (le (increaseLimit (observed .0)) (estimate c)) _ _
-      (λ t. inr (inl (le-trans ratio (increaseLimit (observed .0)) (estimate c) limit-high t)))
-      (rw (h .low-is, h .high-is) (reached-clamp _ (min-ordered _ _ (min-ordered ratio _ (scaled c observed now f h))) (reached-min _ (raised-high _ _ (h .in-range)))))
+      (λ t. inr (inl (le-trans (ratio observed) (increaseLimit (observed .0)) (estimate c) limit-high t)))
+      (rw (h .low-is, h .high-is) (reached-clamp _ (min-ordered _ _ (min-ordered (ratio observed) _ (ratio-ordered observed f))) (reached-min _ (raised-high _ _ (h .in-range)))))
 
 -- ---- a normal signal
 module _ (c : RateControl) (observed : Bitrate) (rtt : OptionDuration) (now : ℕ) where
