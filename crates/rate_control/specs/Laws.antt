@@ -183,7 +183,7 @@ update-sound c s observed rtt now f h = go (transition (c .state) s)
     go Hold = h
 
 -- ---- one increase
--- it adds at least 1,000, of which rounding takes less than 1
+-- it adds at least 1,000, of which rounding takes 1 at most
 sum-high : (x w : Float) → InRange x → T (le (plus x 999) (add x (max w thousand)))
 sum-high x w h =
     climb x (10 ^ 10) 999 (omega arith) (in-wider h (unfold floats in tt)) (max w thousand)
