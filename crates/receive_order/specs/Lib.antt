@@ -1,0 +1,5 @@
+pub mod ReceiveOrder
+pub mod Parts
+pub mod Sorting
+pub mod Keys
+pub mod Laws
