@@ -1,2 +1,4 @@
 pub mod Trendline
 pub mod Rows
+pub mod Threshold
+pub mod History
