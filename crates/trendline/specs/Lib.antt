@@ -2,3 +2,5 @@ pub mod Trendline
 pub mod Rows
 pub mod Threshold
 pub mod History
+pub mod Term
+pub mod Slope
