@@ -4,3 +4,4 @@ pub mod Threshold
 pub mod History
 pub mod Term
 pub mod Slope
+pub mod Laws

@@ -80,8 +80,8 @@ record Part (b x : Float) : Type 0 where
   range : In zero₊ b x
   held : T (fits binary64 x)
 
-part-within : {b x : Float} → In zero₊ b x → Within b x
-part-within {b} {x} h =
+pub nonneg-within : {b x : Float} → In zero₊ b x → Within b x
+nonneg-within {b} {x} h =
     record { low = le-trans (neg b) zero₊ x (le-trans (neg b) (neg zero₊) zero₊ (neg-le zero₊ b (le-trans zero₊ x b (h .low) (h .high))) (unfold floats in tt)) (h .low); high = h .high }
 
 module _ (b e : Float) where
@@ -92,7 +92,7 @@ module _ (b e : Float) where
       let r = reaches (add a b) b (length xs) e in
       let q = and-l (adds a b) r t in
       let g = and-l (ends (neg a) a (neg b) b) _ q in
-      let w = part-within (k .0 .range) in
+      let w = nonneg-within (k .0 .range) in
       le-trans s (add s x) (totalFrom (add s x) xs) (le-add binary64 s x f (in-finite h (and-l (finite (neg a) && finite a) _ g)) (in-finite w (and-r (finite (neg a) && finite a) _ g)) (k .0 .range .low))
       (total-above (add a b) (add s x) xs (add-fits binary64 s x) (add-in h w q) (k .1) (and-r (adds a b) r t))
 
@@ -103,7 +103,7 @@ module _ (b e : Float) where
       let r = reaches (add a b) b (length xs) e in
       let q = and-l (adds a b) r t in
       let g = and-l (ends (neg a) a (neg b) b) _ q in
-      let w = part-within (k .0 .range) in
+      let w = nonneg-within (k .0 .range) in
       let S = in-finite h (and-l (finite (neg a) && finite a) _ g) in
       let X = in-finite w (and-r (finite (neg a) && finite a) _ g) in
       let next = add-in h w q in
@@ -239,7 +239,7 @@ module _ (times delays : List Float) (m : length times ≡ 20) (n : length delay
 
   denominator-in : In zero₊ (nat (20 * 2 ^ 82)) (total squares)
   denominator-in =
-      let w = total-in zero₊ (two^ 82) (nat (20 * 2 ^ 82)) (lit 0) squares zero-in (each-map squares (λ x p. part-within (p .range)) squares-parts) squares-test in
+      let w = total-in zero₊ (two^ 82) (nat (20 * 2 ^ 82)) (lit 0) squares zero-in (each-map squares (λ x p. nonneg-within (p .range)) squares-parts) squares-test in
       record {
         low = le-trans zero₊ (lit 0) (total squares) (unfold floats in tt) (total-above (two^ 82) (nat (20 * 2 ^ 82)) zero₊ (lit 0) squares (ofBits-fits binary64 0) zero-in squares-parts squares-test);
         high = w .high;
