@@ -1,35 +1,27 @@
 -- What an observation keeps of the estimator, with instants up to s seconds: ranges, counts, the order of the times. The threshold is from 6 to 600.
 -- In use are s = 10 ^ 9, of states that a run reaches, and s = 10 ^ 9 + 1, of lent states that pass question 1.
-use mathlib.Core.Path.{_≡_, refl, subst, _∙_}
-use mathlib.Core.Bool.{Bool, true, false, cond, _&&_}
-use Prim.Native.Nat.{ℕ, zero, suc, _+_, _*_, _/_, _%_, _^_, _≤_, _<_, min}
-use native.Mathlib.Nat.{mul-div-cancel, mul-le-mul-right}
+use mathlib.Core.Path.{_≡_, refl, _∙_}
+use mathlib.Core.Bool.{false, _&&_}
+use Prim.Native.Nat.{ℕ, _+_, _*_, _^_, _≤_, _<_, min}
 use native.Mathlib.Numerals.{add-one}
 use native.Mathlib.Omega.{arith}
-use borrow.Author.Tests.{le-leb, le-ltb, ltb-true, ltb-false, eqb-true}
-use lib.Dec.{T, ltb, leb, eqb}
+use borrow.Author.Tests.{le-ltb, ltb-true, ltb-false, eqb-true}
+use lib.Dec.{T, ltb, eqb}
 use lib.ListN.{length}
-use lib.IntN.{pos}
 use lib.Ieee as Ieee
-use lib.Ieee.{Float, binary64, ofInt, le, lt, neg}
+use lib.Ieee.{Float, le, lt, neg}
 use Rattle.float_order.specs.Binary64 as F
 use Rattle.float_order.specs.Binary64.{sub, mul, div, lit}
-use Rattle.float_order.specs.Order.{ordered, le-trans, neg-le, neg-neg}
-use Rattle.float_order.specs.Ops.{zero₊, mul-neg-l, mul-nonneg}
-use Rattle.float_order.specs.Range.{In, Within, nat, in-finite, in-ordered, in-closed, lit-in, add-in, sub-in, mul-in, absorb}
+use Rattle.float_order.specs.Order.{ordered, le-trans}
+use Rattle.float_order.specs.Range.{Within, nat, in-ordered, in-closed, lit-in, add-in, mul-in, absorb}
 use Rattle.float_order.specs.Interval.{floats}
 use Rattle.float_order.specs.Dyadic.{two^}
-use Rattle.float_order.specs.Whole.{nat-le, add-whole-up, mul-whole-up}
-use Rattle.float_order.specs.Casts.{ofInt-whole}
-use Rattle.seconds.specs.Seconds as Seconds
-use Rattle.seconds.specs.Laws.{secs-in, secs-finite}
+use Rattle.float_order.specs.Whole.{nat-le}
 use Rattle.time.specs.Time as Time
-use Rattle.time.specs.Time.{limit, difference, instantOr, saturatingDurationSince}
-use Rattle.time.specs.Laws.{since-exact, seconds-positive, seconds-negative}
+use Rattle.time.specs.Time.{instantOr, saturatingDurationSince}
 use Rattle.time.specs.declared.OptionInstant.{OptionInstant}
 use Rattle.time.specs.declared.OptionInstant.the-variants as Instant
 use Rattle.time.specs.declared.TimeDelta.{TimeDelta}
-use Rattle.time.specs.declared.TimeDelta.the-variants.{NegativeInfinity, Negative, Positive, PositiveInfinity}
 use Rattle.bandwidth.specs.declared.BandwidthUsage.{BandwidthUsage}
 use Rattle.arrival_group.specs.Laws.{AtMost}
 use Rattle.arrival_group.specs.declared.InterGroupDelayDelta.{InterGroupDelayDelta}
@@ -40,10 +32,12 @@ use Rattle.trendline.specs.declared.OptionOveruse.the-variants as Over
 use Rattle.trendline.specs.declared.Delays.{Delays}
 use Rattle.trendline.specs.declared.Judgement.{Judgement}
 use Rattle.trendline.specs.declared.TrendlineEstimator.{TrendlineEstimator}
-use Rattle.trendline.specs.Trendline.{smoothingCoef, one, thousand, place, add, accumulate, delayDelta, timeSince, addToHistory, linearFit, modifiedTrend, withTrend, overUseTimeThreshold, nextOveruse, overusing, judge, detect, new, addDelayObservation}
+use Rattle.trendline.specs.Cases.{cases}
+use Rattle.trendline.specs.Trendline.{smoothingCoef, one, place, add, accumulate, addToHistory, linearFit, modifiedTrend, withTrend, overUseTimeThreshold, nextOveruse, overusing, judge, detect, new, addDelayObservation}
 use Rattle.trendline.specs.History.{First, Ascending, placed, insert-length, insert-each, insert-ascending, insert-full-length, insert-full-each, insert-full-ascending}
-use Rattle.trendline.specs.Slope.{nonneg-within, fit-ordered}
-use Rattle.trendline.specs.Threshold.{modified-ordered, threshold-in}
+use Rattle.trendline.specs.Milliseconds.{wider, time-in, delta-in}
+use Rattle.trendline.specs.Slope.{Bounded, fit, sums-in, slope-in, fit-ordered}
+use Rattle.trendline.specs.Threshold.{ThresholdIn, modified-ordered, threshold-in}
 
 -- ---- the claims
 -- the largest float that is not above 10 ^ 30
@@ -57,7 +51,7 @@ pub record SoundDelays (d : Delays) : Type 0 where
   pub count : d .«num_delay_variations» ≤ 1000
   pub accumulated : Within mostAccumulated (d .«accumulated_delay»)
   pub smoothed : Within (nat (10 ^ 31)) (d .«smoothed_delay»)
-  pub threshold : In (nat 6) (nat 600) (d .«delay_threshold»)
+  pub threshold : ThresholdIn (d .«delay_threshold»)
   pub trend : T (ordered (d .«previous_trend»))
 
 pub record SoundHistory (s : ℕ) (h : History) : Type 0 where
@@ -93,76 +87,12 @@ pub record Observed (s : ℕ) (v : InterGroupDelayDelta) : Type 0 where
 pub data OveruseStep (old : OptionOveruse) (sent : TimeDelta) : OptionOveruse → Type 0 where
   stays : OveruseStep old sent old
   cleared : OveruseStep old sent Over.None
-  lasts : OveruseStep old sent (Over.Some (nextOveruse old sent))
-
--- ---- ms of a length of time
-wider : {a b x : Float} → T (le a b) → Within a x → Within b x
-wider {a} {b} {x} l h = record { low = le-trans (neg b) (neg a) x (neg-le a b l) (h .low); high = le-trans x a b (h .high) l }
-
-within-neg : {a x : Float} → Within a x → Within a (neg x)
-within-neg {a} {x} h = record { low = neg-le x a (h .high); high = subst (λ (z : Float). T (le (neg x) z)) (neg-neg a) (neg-le (neg a) x (h .low)) }
-
-module _ (n : ℕ) (few : n ≤ 10 ^ 9 + 2) where
-  seconds-whole : T (le (Seconds.asSecsF64 (n * 10 ^ 9)) (nat n))
-  unfolding Seconds.asSecsF64
-  seconds-whole =
-      let q : n * 10 ^ 9 / 10 ^ 9 ≡ n = omega arith in
-      let r : n * 10 ^ 9 % 10 ^ 9 ≡ 0 = omega arith in
-      let x = ofInt binary64 (pos n) in
-      let y = div (ofInt binary64 (pos 0)) (ofInt binary64 (pos (10 ^ 9))) in
-      let h : In (nat n) (nat n) x = ofInt-whole n (omega arith) in
-      let z : In (nat 0) (nat 0) y = in-closed (unfold floats in tt) in
-      rw (q, r) (le-trans (F.add x y) (nat (n + 0)) (nat n) (add-whole-up n 0 x y (in-finite h tt) (in-finite z tt) (omega arith) (h .high) (z .high)) (nat-le (n + 0) n (omega arith)))
-
-  ms-nonneg : (d : ℕ) → d ≤ n * 10 ^ 9 → Within (nat (n * 1000)) (mul (Seconds.asSecsF64 d) thousand)
-  ms-nonneg d h =
-      let x = Seconds.asSecsF64 d in
-      let w : In zero₊ (Seconds.asSecsF64 (n * 10 ^ 9)) x = secs-in d (n * 10 ^ 9) h (omega arith) in
-      let high : T (le x (nat n)) = le-trans x (Seconds.asSecsF64 (n * 10 ^ 9)) (nat n) (w .high) seconds-whole in
-      let X = secs-finite d (omega arith) in
-      let k : In (nat 1000) (nat 1000) thousand = in-closed (unfold floats in tt) in
-      nonneg-within
-      (record {
-        low = mul-nonneg binary64 x thousand X (in-finite k tt) (w .low) (unfold floats in tt);
-        high = mul-whole-up n 1000 x thousand X (in-finite k tt) (omega arith) (w .low) high (unfold floats in tt) (k .high);
-      })
-
-  ms-in : (d : TimeDelta) → AtMost (n * 10 ^ 9) d → Within (nat (n * 1000)) (mul (Time.asSecsF64 d) thousand)
-  ms-in NegativeInfinity h = absurd h
-  ms-in (Negative d) h = rw (seconds-negative d (omega arith), mul-neg-l binary64 (Seconds.asSecsF64 d) thousand) (within-neg (ms-nonneg d h))
-  ms-in (Positive d) h = rw (seconds-positive d (omega arith)) (ms-nonneg d h)
-  ms-in PositiveInfinity h = absurd h
-
-at-most-wider : {m n : ℕ} → m ≤ n → (d : TimeDelta) → AtMost m d → AtMost n d
-at-most-wider l NegativeInfinity h = h
-at-most-wider l (Negative d) h = omega arith
-at-most-wider l (Positive d) h = omega arith
-at-most-wider l PositiveInfinity h = h
-
-either : {A : Type 0} (P : A → Type 0) (t : Bool) {x y : A} → (t ≡ true → P x) → (t ≡ false → P y) → P (cond t x y)
-either P true f g = f refl
-either P false f g = g refl
-
-since-bound : {n a b : ℕ} → n ≤ limit → a ≤ n → b ≤ n → AtMost n (Time.since (Time.exact a) (Time.exact b))
-unfolding Time.exact difference
-since-bound {n} {a} {b} l h k =
-    rw (le-leb a limit (omega arith), le-leb b limit (omega arith), since-exact a b (omega arith) (omega arith)) (either (AtMost n) (ltb a b) (λ e. omega arith) (λ e. omega arith))
+  begins : old ≡ Over.None → OveruseStep old sent (Over.Some (record { count = 1; «time_overusing» = Time.div sent 2 }))
+  lasts : {o : Overuse} → old ≡ Over.Some o → OveruseStep old sent (Over.Some (record { count = min (o .count + 1) 2; «time_overusing» = Time.add (o .«time_overusing») sent }))
 
 -- ---- the sums of delays
-module _ {s : ℕ} (few : s ≤ 10 ^ 9 + 1) where
-  time-in : {last start : ℕ} → last ≤ s * 10 ^ 9 → start ≤ s * 10 ^ 9 → Within (nat (s * 1000)) (timeSince last start)
-  time-in {last} {start} h k = ms-in s (omega arith) (Time.since (Time.exact last) (Time.exact start)) (since-bound (omega arith) h k)
-
-  delta-in : {v : InterGroupDelayDelta} → Observed s v → Within (nat (4 * 10 ^ 12)) (delayDelta v)
-  unfolding delayDelta
-  delta-in {v} o =
-      let ends : T (le (nat ((s + 1) * 1000)) (nat (10 ^ 12 + 2000))) = nat-le ((s + 1) * 1000) (10 ^ 12 + 2000) (omega arith) in
-      let arrival = wider ends (ms-in (s + 1) (omega arith) (v .«arrival_delta») (at-most-wider (omega arith) (v .«arrival_delta») (o .arrival))) in
-      let send = wider ends (ms-in (s + 1) (omega arith) (v .«send_delta») (at-most-wider (omega arith) (v .«send_delta») (o .send))) in
-      sub-in arrival send (unfold floats in tt)
-
 -- one difference is below half a step of the floats near 10 ^ 30
-accumulate-sound : {d : Delays} {delta : Float} → SoundDelays d → Within (nat (4 * 10 ^ 12)) delta → SoundDelays (accumulate d delta)
+pub accumulate-sound : {d : Delays} {delta : Float} → SoundDelays d → Within (nat (4 * 10 ^ 12)) delta → SoundDelays (accumulate d delta)
 unfolding accumulate
 accumulate-sound {d} {delta} h k =
     let total : Within mostAccumulated (F.add (d .«accumulated_delay») delta) = absorb (h .accumulated) k (unfold floats in tt) in
@@ -177,15 +107,15 @@ accumulate-sound {d} {delta} h k =
     }
 
 -- ---- the history
-history-sound : {s : ℕ} {h : History} {time delay : Float} → SoundHistory s h → Within (nat (s * 1000)) time → Within (nat (10 ^ 31)) delay → SoundHistory s (add h time delay)
+pub add-sound : {s : ℕ} {h : History} {time delay : Float} → SoundHistory s h → Within (nat (s * 1000)) time → Within (nat (10 ^ 31)) delay → SoundHistory s (add h time delay)
 unfolding add
-history-sound {s} {h} {time} {delay} k t d =
+add-sound {s} {h} {time} {delay} k t d =
     let xs = h .times in
     let ys = h .delays in
     let r = placed xs (h .len) time (λ i l. in-ordered (k .times i l)) (in-ordered t) in
     let p = place xs (h .len) time in
     rw (le-ltb 20 (h .len) (k .few))
-    (either (SoundHistory s) (ltb (h .len) 20)
+    (cases (SoundHistory s) (ltb (h .len) 20)
     (λ e.
     let l = ltb-true (h .len) 20 e in
     let m : h .len < length xs = rw (k .times-length) l in
@@ -210,38 +140,58 @@ history-sound {s} {h} {time} {delay} k t d =
       order = insert-full-ascending xs p time (h .len) r (k .order) m;
     }))
 
+-- ---- the slope over a full history
+module _ {s : ℕ} (few : s ≤ 10 ^ 9 + 1) {h : History} (k : SoundHistory s h) (full : h .len ≡ 20) where
+  times-in : First (Within (two^ 40)) 20 (h .times)
+  times-in i m =
+      wider (le-trans (nat (s * 1000)) (nat (10 ^ 12 + 1000)) (two^ 40) (nat-le (s * 1000) (10 ^ 12 + 1000) (omega arith)) (unfold floats in tt)) (k .times i (rw full m))
+
+  delays-in : First (Within (nat (10 ^ 31))) 20 (h .delays)
+  delays-in = rw full at (k .delays)
+
+  pub history-sums : Bounded (h .times) (h .delays)
+  history-sums = sums-in (h .times) (h .delays) (k .times-length) (k .delays-length) times-in delays-in
+
+  pub history-slope : Ieee.eq (fit (h .times) (h .delays) .denominator) (lit 0) ≡ false
+      → Within (two^ 688) (div (fit (h .times) (h .delays) .numerator) (fit (h .times) (h .delays) .denominator))
+  history-slope e = slope-in (h .times) (h .delays) (k .times-length) (k .delays-length) times-in delays-in e
+
+  pub history-fit : (previous : Float) → T (ordered previous) → T (ordered (linearFit (h .times) (h .delays) previous))
+  history-fit previous o = fit-ordered (h .times) (h .delays) (k .times-length) (k .delays-length) times-in delays-in previous o
+
 -- ---- the possible overuse
+next-step : (old : OptionOveruse) (sent : TimeDelta) → OveruseStep old sent (Over.Some (nextOveruse old sent))
+unfolding nextOveruse
+next-step Over.None sent = begins refl
+next-step (Over.Some o) sent = lasts refl
+
 judge-step : (d : Delays) (old : OptionOveruse) (hypothesis : BandwidthUsage) (trend : Float) (sent : TimeDelta) → OveruseStep old sent (judge d old hypothesis trend sent .overuse)
 unfolding judge overusing
 judge-step d old hypothesis trend sent =
     let modified = modifiedTrend d trend in
     let o = nextOveruse old sent in
     let P : Judgement → Type 0 = λ j. OveruseStep old sent (j .overuse) in
-    either P (Ieee.lt (d .«delay_threshold») modified)
-    (λ e. either P (Time.lt (Time.positive overUseTimeThreshold) (o .«time_overusing») && ltb 1 (o .count) && Ieee.lt (d .«previous_trend») trend) (λ f. cleared) (λ f. lasts))
-    (λ e. either P (Ieee.lt modified (neg (d .«delay_threshold»))) (λ f. cleared) (λ f. cleared))
+    cases P (Ieee.lt (d .«delay_threshold») modified)
+    (λ e. cases P (Time.lt (Time.positive overUseTimeThreshold) (o .«time_overusing») && ltb 1 (o .count) && Ieee.lt (d .«previous_trend») trend) (λ f. cleared) (λ f. next-step old sent))
+    (λ e. cases P (Ieee.lt modified (neg (d .«delay_threshold»))) (λ f. cleared) (λ f. cleared))
 
 detect-step : (t : TrendlineEstimator) (trend : Float) (sent : TimeDelta) (now : ℕ) → OveruseStep (t .overuse) sent (detect t trend sent now .overuse)
 unfolding detect
 detect-step t trend sent now =
-    either (λ (u : TrendlineEstimator). OveruseStep (t .overuse) sent (u .overuse)) (ltb (t .delays .«num_delay_variations») 2) (λ e. stays) (λ e. judge-step (t .delays) (t .overuse) (t .hypothesis) trend sent)
+    cases (λ (u : TrendlineEstimator). OveruseStep (t .overuse) sent (u .overuse)) (ltb (t .delays .«num_delay_variations») 2) (λ e. stays) (λ e. judge-step (t .delays) (t .overuse) (t .hypothesis) trend sent)
 
 pub overuse-step : (t : TrendlineEstimator) (v : InterGroupDelayDelta) (now : ℕ) → OveruseStep (t .overuse) (v .«send_delta») (addDelayObservation t v now .overuse)
 unfolding addDelayObservation addToHistory
 overuse-step t v now =
     let u = addToHistory t v in
-    either (λ (w : TrendlineEstimator). OveruseStep (t .overuse) (v .«send_delta») (w .overuse)) (eqb (u .history .len) 20)
+    cases (λ (w : TrendlineEstimator). OveruseStep (t .overuse) (v .«send_delta») (w .overuse)) (eqb (u .history .len) 20)
     (λ e. detect-step u (linearFit (u .history .times) (u .history .delays) (u .delays .«previous_trend»)) (v .«send_delta») now) (λ e. stays)
-
-next-count : (old : OptionOveruse) (sent : TimeDelta) → nextOveruse old sent .count ≤ 2
-unfolding nextOveruse
-next-count Over.None sent = omega arith
-next-count (Over.Some o) sent = omega arith
 
 step-sound : {old new′ : OptionOveruse} {sent : TimeDelta} → OveruseStep old sent new′ → SoundOveruse old → SoundOveruse new′
 step-sound stays h = h
 step-sound cleared h = tt
-step-sound {old} {sent = sent} lasts h = next-count old sent
+step-sound (begins e) h = omega arith
+step-sound (lasts e) h = omega arith
 
 -- ---- the estimator
 pub new-sound : (s : ℕ) → Sound s new
@@ -263,14 +213,14 @@ module _ {s : ℕ} (few : s ≤ 10 ^ 9 + 1) where
   unfolding addToHistory
   to-history-sound {t} {v} h o =
       let z = instant-or (t .«zero_time») (h .zero-time) (o .last) in
-      let d = accumulate-sound (h .delays) (delta-in few o) in
-      record { zero-time = z; history = history-sound (h .history) (time-in few (o .last) z) (d .smoothed); delays = d; overuse = h .overuse; last-update = h .last-update }
+      let d = accumulate-sound (h .delays) (delta-in few v (o .send) (o .arrival)) in
+      record { zero-time = z; history = add-sound (h .history) (time-in few (o .last) z) (d .smoothed); delays = d; overuse = h .overuse; last-update = h .last-update }
 
   detect-sound : {t : TrendlineEstimator} (trend : Float) (sent : TimeDelta) {now : ℕ} → Sound s t → T (ordered trend) → now ≤ s * 10 ^ 9 → Sound s (detect t trend sent now)
   unfolding detect withTrend
   detect-sound {t} trend sent {now} h o k =
       let d = t .delays in
-      either (Sound s) (ltb (d .«num_delay_variations») 2)
+      cases (Sound s) (ltb (d .«num_delay_variations») 2)
       (λ e. record { zero-time = h .zero-time; history = h .history; delays = h .delays; overuse = h .overuse; last-update = h .last-update })
       (λ e.
       let n = ltb-false (d .«num_delay_variations») 2 e in
@@ -288,15 +238,13 @@ module _ {s : ℕ} (few : s ≤ 10 ^ 9 + 1) where
         last-update = k;
       })
 
-  fit-sound : {t : TrendlineEstimator} → Sound s t → t .history .len ≡ 20 → T (ordered (linearFit (t .history .times) (t .history .delays) (t .delays .«previous_trend»)))
-  fit-sound {t} h e =
-      let k = h .history in
-      let l : T (le (nat (s * 1000)) (two^ 40)) = le-trans (nat (s * 1000)) (nat (10 ^ 12 + 1000)) (two^ 40) (nat-le (s * 1000) (10 ^ 12 + 1000) (omega arith)) (unfold floats in tt) in
-      fit-ordered (t .history .times) (t .history .delays) (k .times-length) (k .delays-length) (λ i m. wider l (k .times i (rw e m))) (λ i m. k .delays i (rw e m)) (t .delays .«previous_trend») (h .delays .trend)
-
   pub observation-sound : {t : TrendlineEstimator} {v : InterGroupDelayDelta} {now : ℕ} → Sound s t → Observed s v → now ≤ s * 10 ^ 9 → Sound s (addDelayObservation t v now)
   unfolding addDelayObservation
   observation-sound {t} {v} {now} h o k =
       let u = addToHistory t v in
       let g = to-history-sound h o in
-      either (Sound s) (eqb (u .history .len) 20) (λ e. detect-sound (linearFit (u .history .times) (u .history .delays) (u .delays .«previous_trend»)) (v .«send_delta») g (fit-sound g (eqb-true (u .history .len) 20 e)) k) (λ e. g)
+      let previous = u .delays .«previous_trend» in
+      cases (Sound s) (eqb (u .history .len) 20)
+      (λ e.
+      detect-sound (linearFit (u .history .times) (u .history .delays) previous) (v .«send_delta») g (history-fit few (g .history) (eqb-true (u .history .len) 20 e) previous (g .delays .trend)) k)
+      (λ e. g)

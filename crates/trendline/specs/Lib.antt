@@ -1,7 +1,9 @@
 pub mod Trendline
 pub mod Rows
+pub mod Cases
 pub mod Threshold
 pub mod History
 pub mod Term
 pub mod Slope
+pub mod Milliseconds
 pub mod Laws

@@ -2,7 +2,7 @@
 -- 10 ^ 12 + 1000 is below, and delays within 10 ^ 31 ms; either may be any float there, so a denominator may be as small as 2 ^ -1074.
 use mathlib.Core.Path.{_≡_, refl, sym, ap, _∙_, subst}
 use mathlib.Core.Logic.{inl, inr}
-use mathlib.Core.Bool.{Bool, true, false, not, cond, _&&_}
+use mathlib.Core.Bool.{Bool, false, _&&_}
 use mathlib.Core.List.{List, [], _∷_}
 use Prim.Native.Nat.{ℕ, zero, suc, _+_, _*_, _^_, _≤_, _<_}
 use native.Mathlib.Omega.{arith}
@@ -18,12 +18,13 @@ use Rattle.float_order.specs.Arith.{either}
 use Rattle.float_order.specs.Binary64.{add, sub, mul, div, lit}
 use Rattle.float_order.specs.Order.{ordered, over, le-refl, le-trans, le-antisym, not-le→lt, neg-le, finite-ordered, is-false}
 use Rattle.float_order.specs.Ops.{zero₊, add-comm, add-nonneg}
-use Rattle.float_order.specs.Range.{In, Within, nat, ends, in-finite, in-ordered, in-wider, in-closed, lit-in, add-in, sub-in, mul-in, div-in, square-in, positive-of-lt}
+use Rattle.float_order.specs.Range.{In, Within, nat, ends, in-finite, in-ordered, in-closed, lit-in, add-in, sub-in, mul-in, div-in, square-in, positive-of-lt}
 use Rattle.float_order.specs.Interval.{floats}
 use Rattle.float_order.specs.Exact.{le-add}
 use Rattle.float_order.specs.Dyadic.{two^}
 use Rattle.trendline.specs.declared.Fit.{Fit}
-use Rattle.trendline.specs.Trendline.{totalFrom, total, withPoint, sumsFrom, sums, average, slope, linearFit}
+use Rattle.trendline.specs.Cases.{cases}
+use Rattle.trendline.specs.Trendline.{totalFrom, total, withPoint, sumsFrom, sums, average, linearFit}
 use Rattle.trendline.specs.History.{First}
 use Rattle.trendline.specs.Term.{Times, times-wider, times-add, times-div, term}
 
@@ -275,7 +276,3 @@ module _ (times delays : List Float) (m : length times ≡ 20) (n : length delay
   pub fit-ordered : (previous : Float) → T (ordered previous) → T (ordered (linearFit times delays previous))
   unfolding linearFit
   fit-ordered previous o = cases (λ (z : Float). T (ordered z)) (Ieee.eq (fit times delays .denominator) (lit 0)) (λ e. o) (λ e. in-ordered (slope-in e))
-    where
-      cases : (P : Float → Type 0) (t : Bool) {x y : Float} → (t ≡ true → P x) → (t ≡ false → P y) → P (cond t x y)
-      cases P true f g = f refl
-      cases P false f g = g refl

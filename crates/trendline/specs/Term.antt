@@ -9,7 +9,6 @@ use native.Mathlib.Omega.{arith}
 use lib.Dec.{T, leb, leb→le, nleb→lt, lit≤, lit<}
 use lib.Pow.{pow-add, pow-pos, pow-mono, pow-lt}
 use lib.Ieee.{Float, nan, inf, fin, binary64, up, le, neg, round, fits}
-use lib.Ieee.Fits.{mul-fits}
 use lib.Ieee.Order.{round-mono}
 use lib.Ieee.Scale.{finite}
 use lib.Ieee.Positive.{num, den, den-pos, positive, positive-finite, first-pos}
@@ -18,7 +17,7 @@ use Rattle.float_order.specs.Binary64.{add, mul, div}
 use Rattle.float_order.specs.Order.{over, under, gain, loss, le→cross, cross→le, le-trans, den-neg, finite-neg}
 use Rattle.float_order.specs.Round.{Rounds, neg-round, zero-le-round}
 use Rattle.float_order.specs.Ops.{zero₊, add-rounds, mul-rounds, div-rounds, nonneg-under, positive-over, positive-under}
-use Rattle.float_order.specs.Range.{In, Within, finite-between}
+use Rattle.float_order.specs.Range.{Within, finite-between}
 use Rattle.float_order.specs.Abs.{within-finite}
 use Rattle.float_order.specs.Dyadic.{Dyadic, Is, dyadic-is, dyadic-float, dyadic-over, dyadic-up, dyadic-down, float-high, over-num, above-round, two^}
 

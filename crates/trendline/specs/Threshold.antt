@@ -1,10 +1,8 @@
 -- The threshold of the delay trend stays from 6 to 600 ms, whatever the modified trend is, an infinity included, as long as it is no NaN.
-use mathlib.Core.Path.{_≡_, refl, subst}
-use mathlib.Core.Bool.{Bool, true, false, not, cond, _&&_, _||_}
-use Prim.Native.Nat.{ℕ, zero, suc, _*_, _/_, _^_, _≤_, _<_, min}
-use native.Mathlib.Nat.{zero-lt-suc}
+use mathlib.Core.Bool.{Bool, true, false, cond}
+use Prim.Native.Nat.{ℕ, _/_, _≤_, min}
 use native.Mathlib.Omega.{arith}
-use lib.Dec.{T, ltb, eqb, eqb→eq, ltb→lt}
+use lib.Dec.{T, eqb, eqb→eq, ltb→lt}
 use lib.IntN.{pos, negsuc}
 use lib.Ieee as Ieee
 use lib.Ieee.{Float, nan, inf, fin, binary64, ofInt, unlike, le, lt}
@@ -19,9 +17,9 @@ use Rattle.float_order.specs.Casts.{ofInt-in, ofInt-mono}
 use Rattle.float.specs.Float as Float
 use Rattle.float.specs.MinMax.{min-in, clamp-in, abs-nonneg}
 use Rattle.trendline.specs.declared.Delays.{Delays}
-use Rattle.trendline.specs.Trendline.{maxAdoptOffsetMs, thresholdGain, kUp, kDown, gain, moved, adapted, threshold, modifiedTrend}
+use Rattle.trendline.specs.Cases.{cases}
+use Rattle.trendline.specs.Trendline.{maxAdoptOffsetMs, thresholdGain, kUp, kDown, gain, moved, threshold, modifiedTrend}
 
--- ---- the claims
 abbrev pub ThresholdIn : Float → Type 0
 ThresholdIn x = In (nat 6) (nat 600) x
 
@@ -68,10 +66,6 @@ moved-in a d elapsed h k =
     let m : In (-nat 3900) (nat 3900) (mul (mul (gain a d) (sub a d)) (Float.min ms (lit 0x4059_0000_0000_0000))) = mul-in g l (unfold floats in tt) in
     add-in h m (unfold floats in tt)
 
-either : {A : Type 0} (P : A → Type 0) (t : Bool) {x y : A} → (t ≡ true → P x) → (t ≡ false → P y) → P (cond t x y)
-either P true f g = f refl
-either P false f g = g refl
-
 pub threshold-in : (d : Delays) (modified : Float) (elapsed : ℕ) → ThresholdIn (d .«delay_threshold») → T (ordered modified)
     → ThresholdIn (threshold d modified elapsed)
 unfolding threshold
@@ -80,7 +74,7 @@ threshold-in d modified elapsed h o =
     let old = d .«delay_threshold» in
     let z : T (le zero₊ a) = abs-nonneg modified o in
     let s : In (nat 21) (nat 615) (F.add old maxAdoptOffsetMs) = add-in h (lit-in maxAdoptOffsetMs (unfold floats in tt)) (unfold floats in tt) in
-    either ThresholdIn (lt (F.add old maxAdoptOffsetMs) a) (λ e. h)
+    cases ThresholdIn (lt (F.add old maxAdoptOffsetMs) a) (λ e. h)
     (λ e.
     let small : In zero₊ (nat 615) a =
     record { low = z; high = le-trans a (F.add old maxAdoptOffsetMs) (nat 615) (lt-left→le (F.add old maxAdoptOffsetMs) a (in-ordered s) (le-ordered-r zero₊ a z) e) (s .high) } in
