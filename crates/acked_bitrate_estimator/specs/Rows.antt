@@ -1,17 +1,15 @@
 -- Worked examples: windows of 500 and 150 ms, and packets of 1,000 bytes.
 use mathlib.Core.Path.{_≡_, refl}
-use mathlib.Core.Bool.{Bool, true, false}
+use mathlib.Core.Bool.{Bool, true}
 use Prim.Native.Nat.{ℕ, _*_}
 use lib.IntN.{pos}
-use Rattle.float_order.specs.Binary64.{decimal}
 use Rattle.float_order.specs.Interval.{floats}
 use Rattle.seconds.specs.Seconds.{asSecsF64}
 use Rattle.bandwidth.specs.Bandwidth as B
 use Rattle.bandwidth.specs.declared.OptionBitrate.the-variants as Rate
 use Rattle.time.specs.Time.{saturatingAdd}
 use Rattle.acked_bitrate_estimator.specs.declared.AckedBitrateEstimator.{AckedBitrateEstimator}
-use Rattle.acked_bitrate_estimator.specs.declared.OptionSample.the-variants as Sample
-use Rattle.acked_bitrate_estimator.specs.AckedBitrateEstimator.{new, remaining, advance, sample, withPacket, withSample, windowLength, currentWindow, filled, update}
+use Rattle.acked_bitrate_estimator.specs.AckedBitrateEstimator.{new, remaining, advance, sample, withPacket, withSample, windowLength, filled, update}
 
 abbrev ms : ℕ → ℕ
 ms n = n * 1_000_000
@@ -26,15 +24,6 @@ received a n = update a (ms n) (B.bytes (pos 1000))
 unfoldable steps : Bool
 unfolding update filled withPacket withSample sample advance remaining windowLength saturatingAdd B.saturated B.perSecs asSecsF64 floats
 steps = true
-
--- packets at 0, 499 and 500 ms: a sample of 32,000 that is not small
-pub sample-at-500 :
-    let a = received (received fresh 0) 499 in
-    sample (advance (currentWindow a) (ms 1) (ms 500)) (ms 500) ≡ Sample.Some (B.rate (decimal 32000 1)) false
-sample-at-500 = unfold steps in refl
-
-pub estimate-at-500 : received (received (received fresh 0) 499) 500 .estimate ≡ Rate.Some (B.rate (decimal 32000 1))
-estimate-at-500 = unfold steps in refl
 
 -- packets at 0 and 500 ms only: no sample
 pub no-estimate : received (received fresh 0) 500 .estimate ≡ Rate.None

@@ -1,9 +1,7 @@
 -- Rows of document 01, and a case that later proofs must not forget, computed from the definitions.
 use Prim.Native.Nat.{ℕ, _*_}
 use mathlib.Core.Path.{_≡_, refl}
-use mathlib.Core.Bool.{Bool, true, _&&_}
-use mathlib.Core.List.{List, [], _∷_}
-use lib.Dec.{eqb}
+use mathlib.Core.Bool.{Bool, true}
 use Rattle.time.specs.Time.{
   checkedDurationSince,
   saturatingAdd,
@@ -42,25 +40,6 @@ use Rattle.arrival_group.specs.ArrivalGroup.{
 
 abbrev ms : ℕ → ℕ
 ms n = n * 1000000
-
--- ---- rounding of send time
-pub record Rounding : Type 0 where
-  pub micros : ℕ
-  pub millis : ℕ
-
-abbrev pub roundings : List Rounding
-roundings = record { micros = 499; millis = 0 } ∷ record { micros = 500; millis = 1 } ∷ []
-
-abbrev pub rounds : Rounding → Bool
-rounds row = eqb (rounded 0 (row .micros * 1000)) (ms (row .millis))
-
-unfoldable pub everyRounds : List Rounding → Bool
-everyRounds [] = true
-everyRounds (row ∷ rows) = rounds row && everyRounds rows
-
-pub roundings-hold : everyRounds roundings ≡ true
-unfolding everyRounds rounded saturatingAdd
-roundings-hold = refl
 
 -- opens every definition that the rows below compute
 unfoldable groups : Bool

@@ -9,11 +9,6 @@ use Rattle.float_order.specs.Interval.{floats}
 use Rattle.float.specs.Float.{abs, helpers}
 use Rattle.trendline.specs.Trendline.{threshold, newDelays, overUseThresholdDefaultMs, maxAdoptOffsetMs}
 
--- threshold 12.5, trend 0, 100 ms: 6, the least
-pub falls-to-least : threshold newDelays (lit 0) 100000000 ≡ lit 0x4018_0000_0000_0000
-unfolding helpers threshold
-falls-to-least = refl
-
 -- modified trend 27.5 adapts: after 100 ms the threshold is 25.55
 pub adapts-at-offset : threshold newDelays (lit 0x403b_8000_0000_0000) 100000000 ≡ lit 0x4039_8ccc_cccc_cccd
 unfolding helpers threshold
