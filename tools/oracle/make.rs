@@ -85,7 +85,7 @@ fn length(r: &mut Random) -> u64 {
 }
 
 fn time(r: &mut Random) -> (u64, [u64; 5]) {
-    let op = 1 + r.below(14);
+    let op = 1 + r.below(16);
     let (t, u) = (r.below(4), r.below(4));
     let a = length(r);
     let b = if r.one_in(4) { a } else { length(r) };
@@ -99,7 +99,9 @@ fn time(r: &mut Random) -> (u64, [u64; 5]) {
         10 | 11 => (op, [t % 3, a + 10u64.pow(18), b, 0, 0]),
         12 => (op, [t % 3, a, b, 0, 0]),
         13 => (op, [t, a, r.sized(40), 0, 0]),
-        _ => (op, [t, a, b, 0, 0]),
+        14 => (op, [t, a, b, 0, 0]),
+        15 => (op, [t % 2, r.sized(31), 0, 0, 0]),
+        _ => (op, [t % 2, r.sized(41), 0, 0, 0]),
     }
 }
 

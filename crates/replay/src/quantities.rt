@@ -118,11 +118,11 @@ fn deltas(op: u64, a: TimeDelta, b: TimeDelta, n: u64) -> Answers {
     if op == 13 {
         return words(rate_bits(time::rate(size(n), a)), 0, 0, 0, 0, 0);
     }
-    let c = TimeDelta::from(n);
+    let order = order_number(a.cmp_duration(n));
     words(
-        flag(a.eq(c), 1),
-        flag(a.lt(c), 1),
-        flag(a.le(c), 1),
+        flag(a.eq_duration(n), 1),
+        flag(order == 0, 1),
+        flag(order < 2, 1),
         0,
         0,
         0,
@@ -250,7 +250,19 @@ fn next_groups(op: u64, g: ArrivalGroupAccumulator, i: Inputs) -> Accumulated {
     g.accumulate_packet(i.a, i.b)
 }
 
+// The second word, negative if the first is 1.
+fn signed(i: Inputs) -> i64 {
+    let n = (i.b % 0x8000_0000_0000_0000) as i64;
+    if i.a == 1 { 0 - n } else { n }
+}
+
 fn time_words(op: u64, i: Inputs) -> Answers {
+    if op == 15 {
+        return delta_words(TimeDelta::from_secs(signed(i)));
+    }
+    if op == 16 {
+        return delta_words(TimeDelta::from_millis(signed(i)));
+    }
     if op < 6 {
         return deltas(op, delta(i.a, i.b), delta(i.c, i.d), i.c);
     }
