@@ -248,14 +248,9 @@ fn time(op: u64, i: [u64; 5]) -> Answers {
         12 => two(delta_words(s - at(i[2]))),
         13 => one(bits((DataSize::bytes(i[2] as i64) / a).as_f64())),
         14 => [(a == ns(i[2])) as u64, (a < ns(i[2])) as u64, (a <= ns(i[2])) as u64, 0, 0, 0],
-        15 => two(delta_words(TimeDelta::from_secs(signed(i)))),
-        _ => two(delta_words(TimeDelta::from_millis(signed(i)))),
+        15 => two(delta_words(TimeDelta::from_secs(f64::from_bits(i[0]) as i64))),
+        _ => two(delta_words(TimeDelta::from_millis(f64::from_bits(i[0]) as i64))),
     }
-}
-
-// The second word, negative if the first is 1.
-fn signed(i: [u64; 5]) -> i64 {
-    if i[0] == 1 { -(i[1] as i64) } else { i[1] as i64 }
 }
 
 // Two rates: limited, multiplied, compared. Two sizes: as a float, summed (told by an order), per duration.

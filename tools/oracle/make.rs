@@ -100,8 +100,9 @@ fn time(r: &mut Random) -> (u64, [u64; 5]) {
         12 => (op, [t % 3, a, b, 0, 0]),
         13 => (op, [t, a, r.sized(40), 0, 0]),
         14 => (op, [t, a, b, 0, 0]),
-        15 => (op, [t % 2, r.sized(31), 0, 0, 0]),
-        _ => (op, [t % 2, r.sized(41), 0, 0, 0]),
+        // a number of either sign, as a float
+        15 => (op, [f64::to_bits(r.sized(31) as f64 * if t == 0 { 1.0 } else { -1.0 }), 0, 0, 0, 0]),
+        _ => (op, [f64::to_bits(r.sized(41) as f64 * if t == 0 { 1.0 } else { -1.0 }), 0, 0, 0, 0]),
     }
 }
 

@@ -250,18 +250,23 @@ fn next_groups(op: u64, g: ArrivalGroupAccumulator, i: Inputs) -> Accumulated {
     g.accumulate_packet(i.a, i.b)
 }
 
-// The second word, negative if the first is 1.
-fn signed(i: Inputs) -> i64 {
-    let n = (i.b % 0x8000_0000_0000_0000) as i64;
-    if i.a == 1 { 0 - n } else { n }
+// A number of either sign, given as a float.
+fn whole(b: u64) -> i64 {
+    let x = float_bits::from_bits(b);
+    if -1e15 <= x {
+        if x <= 1e15 {
+            return std::num::truncating_f64_to_i64(x);
+        }
+    }
+    0
 }
 
 fn time_words(op: u64, i: Inputs) -> Answers {
     if op == 15 {
-        return delta_words(TimeDelta::from_secs(signed(i)));
+        return delta_words(TimeDelta::from_secs(whole(i.a)));
     }
     if op == 16 {
-        return delta_words(TimeDelta::from_millis(signed(i)));
+        return delta_words(TimeDelta::from_millis(whole(i.a)));
     }
     if op < 6 {
         return deltas(op, delta(i.a, i.b), delta(i.c, i.d), i.c);
