@@ -14,7 +14,7 @@ fn digit(d: u8) -> u8
 
 // How many digits n takes in base 10.
 fn width(n: u64) -> usize
-    ensures { λ r. ⌜ r ≡ Line.width n ⌝ }
+    ensures { λ r. ⌜ (r ≡ Line.width n) × (r ≤ 20) ⌝ }
 {
     let mut w = 1;
     let mut rest = n;
@@ -77,6 +77,13 @@ fn put_fields(
     put_decimal(out, d, next_timeout, 10)
 }
 
+// How many bytes the line has: the three numbers, a letter, 16 digits and the bytes that end the fields.
+fn line_length(record: u64, number: u64, next_timeout: u64) -> usize
+    ensures { λ r. ⌜ r ≡ Line.width «record» + Line.width number + Line.width «next_timeout» + 22 ⌝ }
+{
+    width(record) + width(number) + width(next_timeout) + 22
+}
+
 // Writes the line from place at on and returns the place after it. Without room for all of it nothing is written, and at is returned.
 pub fn put_line(
     out: &mut [u8],
@@ -87,13 +94,13 @@ pub fn put_line(
     bits: u64,
     next_timeout: u64,
 ) -> usize
-    ensures { λ r. ⌜ now (out .exit) ≡ Line.putLine (now (out .entry)) at (Line.line «record» number letter bits «next_timeout») ⌝ }
+    ensures { λ _. ⌜ now (out .exit) ≡ Line.putLine (now (out .entry)) at (Line.line «record» number letter bits «next_timeout») ⌝ }
     ensures { λ r. ⌜ r ≡ Line.placeAfter (now (out .entry)) at (Line.line «record» number letter bits «next_timeout») ⌝ }
 {
     if out.len() < at {
         return at;
     }
-    if out.len() - at < width(record) + width(number) + width(next_timeout) + 22 {
+    if out.len() - at < line_length(record, number, next_timeout) {
         return at;
     }
     put_fields(out, at, record, number, letter, bits, next_timeout)

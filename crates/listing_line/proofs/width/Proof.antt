@@ -3,6 +3,7 @@ use Prim.Native.Nat.{ℕ, _+_, _≤_}
 use mathlib.Core.Path.{_≡_, refl}
 use native.Mathlib.Omega.{arith}
 use Rattle.listing_line.specs.ListingLine.{width, widthBy}
+use Rattle.listing_line.specs.Laws.{width-le}
 use Rattle.listing_line.proofs.Writing.{width-turn, width-end}
 use Rattle.listing_line.proofs.width.Statement.{statement}
 use Rattle.listing_line.proofs.width.Tie as tie
@@ -27,7 +28,11 @@ loop-again : tie.Need-loop-again Inv-loop μ-loop
 loop-again c = (omega arith, width-turn _ _ _ _ (c .loop-test .taken) (c .before .loop .inv .1 .1 .0) (c .before .loop .inv .1 .1 .1))
 
 returns : tie.Need-returns Inv-loop μ-loop
-returns c = omega (arith, width-end (c .before .loop .inv .1 .0) (c .before .loop .rest) (c .loop-test .left))
+returns c =
+    let n = c .before .before .args .n in
+    let e = width-end (c .before .loop .inv .1 .0) (c .before .loop .rest) (c .loop-test .left) in
+    let l = width-le 19 n (omega arith) in
+    (omega arith, omega arith)
 
 pub width-spec : {M : Type 1} → statement M
 width-spec = tie.close (tie.spec Inv-loop μ-loop loop-holds add-w loop-less loop-again returns)
