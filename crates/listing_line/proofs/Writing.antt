@@ -1,14 +1,14 @@
 -- What the proofs cite of texts that are written one after another, and of a number's digits.
-use mathlib.Core.Path.{_≡_, refl, sym, _∙_}
-use Prim.Native.Nat.{ℕ, zero, suc, _+_, _/_, _%_, _≤_, _<_}
+use mathlib.Core.Path.{_≡_, refl, _∙_}
+use Prim.Native.Nat.{ℕ, zero, suc, _+_, _/_, _%_, _*_, _^_, _≤_, _<_}
 use mathlib.Core.List.{List, [], _∷_, _++_}
-use native.Mathlib.Nat.{add-zero, add-suc, suc-add}
+use native.Mathlib.Nat.{add-zero, add-suc, suc-add, pow-suc}
 use native.Mathlib.Omega.{arith}
 use lib.ListN.{length, set, length-append}
 use lib.Seq.{sets, set-comm}
 use borrow.Author.Tests.{lt-ltb, le-ltb}
 use Rattle.listing_line.specs.ListingLine.{digit, digits, widthBy, width, decimal, hexadecimal, space, field, line, putLine, placeAfter, Wrote}
-use Rattle.listing_line.specs.Laws.{length-digits, length-line, sets-append, put-room, place-room, put-no-room, place-no-room}
+use Rattle.listing_line.specs.Laws.{length-digits, length-line, sets-append, put-room, put-no-room}
 
 -- one text after another is the two as one
 pub then : {old text mid more new : List ℕ} {at place next : ℕ} → Wrote old at text mid place → Wrote mid place more new next → Wrote old at (text ++ more) new next
@@ -40,16 +40,31 @@ digits-end out at b k n end = record {
   after = simp (length-append, length-digits) (omega arith);
 }
 
--- a turn of `width`, and its end
-pub width-turn : (f r w t : ℕ) → 10 ≤ r → r ≤ f → t ≡ w + widthBy f r → (g : ℕ) × ((r / 10 ≤ g) × (t ≡ w + 1 + widthBy g (r / 10)))
-unfolding widthBy
-width-turn zero r w t h l e = absurd (omega arith)
-width-turn (suc f) r w t h l e = (f, (omega arith, omega (arith, simp (le-ltb r 10 h) at e)))
+-- ---- how many digits a number takes
+-- of t, w are counted, and those of r are left
+pub record Counted (t w r : ℕ) : Type 0 where
+  pub most : ℕ
+  pub few : w + most ≡ 20
+  pub small : r < 10 ^ suc most
+  pub left : t + 1 ≡ w + widthBy most r
 
-pub width-end : (f r : ℕ) → r < 10 → widthBy f r ≡ 1
+pub width-turn : {t w r : ℕ} → 10 ≤ r → Counted t w r → Counted t (w + 1) (r / 10)
 unfolding widthBy
-width-end zero r h = refl
-width-end (suc f) r h = simp (lt-ltb r 10 h)
+width-turn {t} {w} {r} h c = go (c .most) (c .few) (c .small) (c .left)
+  where
+    go : (f : ℕ) → w + f ≡ 20 → r < 10 ^ suc f → t + 1 ≡ w + widthBy f r → Counted t (w + 1) (r / 10)
+    go zero a b e = absurd (omega arith)
+    go (suc f) a b e =
+        let p : r < 10 ^ suc f * 10 = rw pow-suc at b in
+        record { most = f; few = omega arith; small = omega arith; left = omega (arith, simp (le-ltb r 10 h) at e) }
+
+pub width-end : {t w r : ℕ} → r < 10 → Counted t w r → w ≡ t
+unfolding widthBy
+width-end {t} {w} {r} h c = omega (arith, go (c .most))
+  where
+    go : (f : ℕ) → widthBy f r ≡ 1
+    go zero = refl
+    go (suc f) = simp (lt-ltb r 10 h)
 
 -- ---- a line
 pub record Lengths («record» number letter bits nextTimeout : ℕ) : Type 0 where
@@ -73,9 +88,9 @@ lengths «record» number letter bits nextTimeout = record {
 pub with-room :
     {old new text : List ℕ} {at next : ℕ} → at + length text ≤ length old → Wrote old at text new next
     → (new ≡ putLine old at text) × (next ≡ placeAfter old at text)
-with-room {old} {new} {text} {at} h w = (w .bytes ∙ sym (put-room old at text h), w .after ∙ sym (place-room old at text h))
+with-room {old} {text = text} {at} h w = let v = put-room old at text h in (cc, cc)
 
 pub without-room :
     (out : List ℕ) (at : ℕ) (text : List ℕ) → length out < at + length text
     → (out ≡ putLine out at text) × (at ≡ placeAfter out at text)
-without-room out at text h = (sym (put-no-room out at text h), sym (place-no-room out at text h))
+without-room out at text h = let v = put-no-room out at text h in (cc, cc)

@@ -16,14 +16,15 @@ unfoldable pub digits : ℕ → ℕ → ℕ → List ℕ
 digits b zero n = []
 digits b (suc k) n = digits b k (n / b) ++ (digit (n % b) ∷ [])
 
--- how many digits n takes in base 10; the first number is a limit of steps
+-- how many digits n takes in base 10, of at most f + 1
 unfoldable pub widthBy : ℕ → ℕ → ℕ
 widthBy zero n = 1
 widthBy (suc f) n = cond (ltb n 10) 1 (suc (widthBy f (n / 10)))
 
+-- a number of 64 bits takes at most 20
 unfoldable pub width : ℕ → ℕ
 unfolding widthBy
-width n = widthBy n n
+width n = widthBy 19 n
 
 abbrev pub decimal : ℕ → List ℕ
 decimal n = digits 10 (width n) n
