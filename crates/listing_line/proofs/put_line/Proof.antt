@@ -1,37 +1,31 @@
 -- Without room nothing is written; the room asked for is the line's length.
 use native.Mathlib.Omega.{arith}
 use borrow.Author.Needs.{needs}
-use Rattle.listing_line.specs.Laws.{length-line}
-use Rattle.listing_line.proofs.Writing.{with-room, without-room}
+use Rattle.listing_line.proofs.Writing.{Lengths, lengths, with-room, without-room}
 use Rattle.listing_line.proofs.put_line.Statement.{statement}
 use Rattle.listing_line.proofs.put_line.Tie as tie
-use Rattle.listing_line.proofs.put_line.Reads as reads
-use Rattle.listing_line.proofs.put_line.Lts as lts
-use Rattle.listing_line.proofs.line_length.Reads as line-length-reads
-use Rattle.listing_line.proofs.put_fields.Reads as put-fields-reads
+
+fields : (s : tie.Start) → Lengths (s .args .«record») (s .args .number) (s .args .letter) (s .args .bits) (s .args .next-timeout)
+fields s = lengths _ _ _ _ _
 
 returns : tie.Need-returns
 returns c =
-    let a = c .before .before .args in
-    let l = length-line (a .«record») (a .number) (a .letter) (a .bits) (a .next-timeout) in
+    let l = fields (c .before .before) in
     without-room _ _ _ (omega arith)
 
 returns-2 : tie.Need-returns-2
 returns-2 c =
-    let a = c .before .before .before .before .args in
-    let l = length-line (a .«record») (a .number) (a .letter) (a .bits) (a .next-timeout) in
+    let l = fields (c .before .before .before .before) in
     without-room _ _ _ (omega arith)
 
 put-fields-requires : tie.Need-put-fields-requires
 put-fields-requires c κs =
-    let a = c .before .before .before .before .before .args in
-    let l = length-line (a .«record») (a .number) (a .letter) (a .bits) (a .next-timeout) in
+    let l = fields (c .before .before .before .before .before) in
     omega arith
 
 returns-3 : tie.Need-returns-3
 returns-3 c =
-    let a = c .before .before .before .before .before .before .before .before .args in
-    let l = length-line (a .«record») (a .number) (a .letter) (a .bits) (a .next-timeout) in
+    let l = fields (c .before .before .before .before .before .before .before .before) in
     with-room (omega arith) (c .before .before .put-fields .ensures)
 
 pub put-line-spec : {M : Type 1} → statement M
