@@ -1,4 +1,4 @@
--- What the proofs cite of texts that are written one after another, and of a number's digits.
+-- What the proofs cite of a number's digits, of a line's fields and of its room.
 use mathlib.Core.Path.{_≡_, refl, _∙_}
 use Prim.Native.Nat.{ℕ, zero, suc, _+_, _/_, _%_, _*_, _^_, _≤_, _<_}
 use mathlib.Core.List.{List, [], _∷_, _++_}
@@ -9,13 +9,6 @@ use lib.Seq.{sets, set-comm}
 use borrow.Author.Tests.{lt-ltb, le-ltb}
 use Rattle.listing_line.specs.ListingLine.{digit, digits, widthBy, width, decimal, hexadecimal, space, field, line, putLine, placeAfter, Wrote}
 use Rattle.listing_line.specs.Laws.{length-digits, length-line, sets-append, put-room, put-no-room}
-
--- one text after another is the two as one
-pub then : {old text mid more new : List ℕ} {at place next : ℕ} → Wrote old at text mid place → Wrote mid place more new next → Wrote old at (text ++ more) new next
-then {text = text} {more = more} w v = record {
-  bytes = v .bytes ∙ simp (w .bytes, w .after, sets-append);
-  after = omega (arith, length-append text more);
-}
 
 -- the last byte of a text may be written first
 sets-last : (xs l : List ℕ) (at x : ℕ) → sets l at (xs ++ (x ∷ [])) ≡ sets (set l (at + length xs) x) at xs

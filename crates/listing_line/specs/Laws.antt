@@ -45,7 +45,7 @@ module _ («record» number letter bits nextTimeout : ℕ) where
   line-short h i j =
       omega (arith, length-line, width-le 3 «record» (omega arith), width-le 1 number (omega arith), width-le 18 nextTimeout (omega arith))
 
--- ---- the bytes of a line
+-- ---- the bytes of a line: 0 to 9, a to f, the letter, a space, a line feed
 pub data Printed (letter x : ℕ) : Type 0 where
   zero-to-nine : 48 ≤ x → x ≤ 57 → Printed letter x
   a-to-f : 97 ≤ x → x ≤ 102 → Printed letter x
@@ -91,10 +91,17 @@ line-printed «record» number letter bits nextTimeout x =
     ended text f g = in-either text f (λ m. g (List·Memᴰ·eq-of-singleton m))
 
 -- ---- the buffer
--- two texts, one after the other, are one
+-- two runs of stores, one after the other, are one
 pub sets-append : (xs ys l : List ℕ) (at : ℕ) → sets (sets l at xs) (at + length xs) ys ≡ sets l at (xs ++ ys)
 sets-append [] ys l at = rw add-zero
 sets-append (x ∷ xs) ys l at = rw (add-suc, ← suc-add) (sets-append xs ys (set l at x) (suc at))
+
+-- two texts that were written one after the other are one
+pub then : {old text mid more new : List ℕ} {at place next : ℕ} → Wrote old at text mid place → Wrote mid place more new next → Wrote old at (text ++ more) new next
+then {text = text} {more = more} w v = record {
+  bytes = v .bytes ∙ simp (w .bytes, w .after, sets-append);
+  after = omega (arith, length-append text more);
+}
 
 module _ (out : List ℕ) (at : ℕ) (text : List ℕ) where
   -- with room, the text is written, and the bytes before and after it are as they were

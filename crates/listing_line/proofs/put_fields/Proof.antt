@@ -2,7 +2,8 @@
 use native.Mathlib.Omega.{arith}
 use borrow.Author.Needs.{needs}
 use Rattle.listing_line.specs.ListingLine.{line}
-use Rattle.listing_line.proofs.Writing.{Lengths, lengths, then}
+use Rattle.listing_line.specs.Laws.{then}
+use Rattle.listing_line.proofs.Writing.{Lengths, lengths}
 use Rattle.listing_line.proofs.put_fields.Statement.{statement}
 use Rattle.listing_line.proofs.put_fields.Tie as tie
 
