@@ -1,0 +1,107 @@
+// Document 01, pass file and program: one line of the listing, written into a lent buffer.
+ghost use mathlib.Core.Path.{_≡_};
+ghost use mathlib.Core.List.{[], _∷_};
+ghost use Prim.Native.Nat.{_+_, _≤_, _<_};
+ghost use lib.ListN.{length};
+ghost use Rattle.listing_line.specs.ListingLine as Line;
+
+fn digit(d: u8) -> u8
+    requires { ⌜ d < 16 ⌝ }
+    ensures { λ r. ⌜ r ≡ Line.digit d ⌝ }
+{
+    if d < 10 { 48 + d } else { 87 + d }
+}
+
+// How many digits n takes in base 10.
+fn width(n: u64) -> usize
+    ensures { λ r. ⌜ (r ≡ Line.width n) × (r ≤ 20) ⌝ }
+{
+    let mut w = 1;
+    let mut rest = n;
+    while 10 <= rest {
+        rest /= 10;
+        w += 1;
+    }
+    w
+}
+
+// The last k digits of n in base b, from the last to the first, and the byte that ends them.
+fn put_digits(out: &mut [u8], at: usize, n: u64, b: u64, k: usize, end: u8) -> usize
+    requires { ⌜ (1 < b) × (b ≤ 16) × (at + k < length (now out)) ⌝ }
+    ensures { λ r. ⌜ Line.Wrote (now (out .entry)) at (Line.field (Line.digits b k n) end) (now (out .exit)) r ⌝ }
+{
+    let mut i = k;
+    let mut rest = n;
+    while 0 < i {
+        i -= 1;
+        out[at + i] = digit((rest % b) as u8);
+        rest /= b;
+    }
+    out[at + k] = end;
+    at + k + 1
+}
+
+fn put_decimal(out: &mut [u8], at: usize, n: u64, end: u8) -> usize
+    requires { ⌜ at + Line.width n < length (now out) ⌝ }
+    ensures { λ r. ⌜ Line.Wrote (now (out .entry)) at (Line.field (Line.decimal n) end) (now (out .exit)) r ⌝ }
+{
+    put_digits(out, at, n, 10, width(n), end)
+}
+
+fn put_letter(out: &mut [u8], at: usize, letter: u8, end: u8) -> usize
+    requires { ⌜ at + 1 < length (now out) ⌝ }
+    ensures { λ r. ⌜ Line.Wrote (now (out .entry)) at (Line.field (letter ∷ []) end) (now (out .exit)) r ⌝ }
+{
+    out[at] = letter;
+    out[at + 1] = end;
+    at + 2
+}
+
+// The five fields, where they have room.
+fn put_fields(
+    out: &mut [u8],
+    at: usize,
+    record: u64,
+    number: u64,
+    letter: u8,
+    bits: u64,
+    next_timeout: u64,
+) -> usize
+    requires { ⌜ at + length (Line.line «record» number letter bits «next_timeout») ≤ length (now out) ⌝ }
+    ensures { λ r. ⌜ Line.Wrote (now (out .entry)) at (Line.line «record» number letter bits «next_timeout») (now (out .exit)) r ⌝ }
+{
+    let a = put_decimal(out, at, record, 32);
+    let b = put_decimal(out, a, number, 32);
+    let c = put_letter(out, b, letter, 32);
+    let d = put_digits(out, c, bits, 16, 16, 32);
+    put_decimal(out, d, next_timeout, 10)
+}
+
+// How many bytes the line has: the three numbers, a letter, 16 digits and the bytes that end the fields.
+fn line_length(record: u64, number: u64, next_timeout: u64) -> usize
+    ensures { λ r. ⌜ r ≡ Line.width «record» + Line.width number + Line.width «next_timeout» + 22 ⌝ }
+{
+    width(record) + width(number) + width(next_timeout) + 22
+}
+
+// Writes the line from place at on and returns the place after it. Without room for all of it nothing is written, and at is returned.
+pub fn put_line(
+    out: &mut [u8],
+    at: usize,
+    record: u64,
+    number: u64,
+    letter: u8,
+    bits: u64,
+    next_timeout: u64,
+) -> usize
+    ensures { λ _. ⌜ now (out .exit) ≡ Line.putLine (now (out .entry)) at (Line.line «record» number letter bits «next_timeout») ⌝ }
+    ensures { λ r. ⌜ r ≡ Line.placeAfter (now (out .entry)) at (Line.line «record» number letter bits «next_timeout») ⌝ }
+{
+    if out.len() < at {
+        return at;
+    }
+    if out.len() - at < line_length(record, number, next_timeout) {
+        return at;
+    }
+    put_fields(out, at, record, number, letter, bits, next_timeout)
+}
