@@ -1,0 +1,2 @@
+pub mod PassRecords
+pub mod Laws
