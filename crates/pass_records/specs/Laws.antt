@@ -10,7 +10,6 @@ use lib.ListN.{length}
 use borrow.Author.Tests.{ltb-true, leb-true, eqb-true, eqb-false}
 use Rattle.pass_records.specs.declared.Following.{Following}
 use Rattle.pass_records.specs.declared.Following.the-variants.{Next, End, BadKind, BadNext}
-use Rattle.pass_records.specs.declared.Judged.{Judged}
 use Rattle.pass_records.specs.declared.Judged.the-variants as J
 use Rattle.pass_records.specs.PassRecords.{
   mostRecords,

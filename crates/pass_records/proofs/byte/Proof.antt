@@ -1,13 +1,11 @@
--- `pass_records::byte` meets its contract.
+-- `pass_records::byte` meets its contract: past the end all bytes are 0.
 use mathlib.Core.Path.{_≡_, sym}
-use Prim.Native.Nat.{_+_, min}
+use native.Mathlib.Nat.{add-zero}
 use native.Mathlib.Omega.{arith}
-use denote.Ref.{now}
 use borrow.Author.Needs.{needs}
 use Rattle.le_bytes.specs.LeBytes.{le}
 use Rattle.pass_records.specs.PassRecords.{base}
 use Rattle.pass_records.proofs.Past.{le-past}
-use native.Mathlib.Nat.{add-zero}
 use Rattle.pass_records.proofs.byte.Statement.{statement}
 use Rattle.pass_records.proofs.byte.Tie as tie
 

@@ -1,4 +1,4 @@
--- `pass_records::judge` meets its contract.
+-- `pass_records::judge` meets its contract: the tests on the way choose the definition's case.
 use borrow.Author.Needs.{needs}
 use borrow.Author.Tests.{eq-eqb, ne-eqb}
 use Rattle.pass_records.specs.PassRecords.{judge}

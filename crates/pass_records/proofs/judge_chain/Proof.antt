@@ -1,8 +1,8 @@
 -- `pass_records::judge_chain` meets its contract. The loop's invariant: the first no along the chain from record 1 is that along the chain from record k.
 use Prim.Native.Nat.{ℕ, _-_, _≤_}
 use mathlib.Core.Path.{_≡_, refl, sym, _∙_}
-use native.Mathlib.Omega.{arith}
 use mathlib.Core.List.{List}
+use native.Mathlib.Omega.{arith}
 use denote.Ref.{now}
 use borrow.Author.Needs.{needs}
 use Rattle.pass_records.specs.PassRecords.{follows, onward, chainFrom, judgeOne, judgeAlong}
@@ -30,6 +30,7 @@ turn :
     judgeOne t (judgeAlong file last (onward t (chainFrom file last))) ≡ whole
 turn file last k whole t i e f = sym (judge-step file last k t (i .0) (sym e ∙ f)) ∙ i .1
 
+-- the record that follows, where one does
 after : (c : tie.After-known-told Inv-loop μ-loop)
     → Followed (now (c .before .before .before .before .before .before .args .file)) (c .before .before .before .before .before .before .args .last) (c .before .before .before .before .loop .k) (c .before .n .given .0 .0)
 after c = followed _ _ _ _ (sym (c .before .before .before .follows .ensures) ∙ c .before .n .given .1)

@@ -1,4 +1,4 @@
--- `pass_records::record_count` meets its contract.
+-- `pass_records::record_count` meets its contract: the tests on the way choose the definition's case.
 use borrow.Author.Tests.{eq-eqb, ne-eqb, le-leb, lt-leb}
 use Rattle.pass_records.specs.PassRecords.{recordCount}
 use Rattle.pass_records.proofs.record_count.Statement.{statement}

@@ -1,4 +1,4 @@
--- `pass_records::word` meets its contract.
+-- `pass_records::word` meets its contract: a start that is cut off at the end reads the same.
 use borrow.Author.Needs.{needs}
 use Rattle.pass_records.proofs.Past.{le-cut}
 use Rattle.pass_records.proofs.word.Statement.{statement}
