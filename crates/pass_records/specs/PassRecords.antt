@@ -13,6 +13,7 @@ use Rattle.pass_records.specs.declared.Judged.the-variants as J
 abbrev pub recordBytes : ℕ
 recordBytes = 48
 
+-- the most records that a file may have
 abbrev pub mostRecords : ℕ
 mostRecords = 1365
 
@@ -26,7 +27,7 @@ report = 2
 abbrev pub timeout : ℕ
 timeout = 3
 
--- question 10: how many records a file has, and 0 where its length is not 48 times 1 to 1,365
+-- question 10: how many records a file has, and 0 where its length is not that of 1 to the most records
 unfoldable pub recordCount : List ℕ → ℕ
 recordCount file =
     cond (eqb (length file % recordBytes) 0 && leb (length file / recordBytes) mostRecords) (length file / recordBytes) 0

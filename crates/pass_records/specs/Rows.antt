@@ -1,11 +1,13 @@
 -- The example of document 01, three records of which the second is skipped, and the largest number of records, computed from the definitions.
-use Prim.Native.Nat.{ℕ, zero, suc}
+use Prim.Native.Nat.{ℕ, zero, suc, _*_}
 use mathlib.Core.Path.{_≡_, refl}
 use mathlib.Core.List.{List, [], _∷_, _++_}
 use lib.ListN.{length}
 use Rattle.le_bytes.specs.LeBytes.{le}
 use Rattle.pass_records.specs.declared.Judged.the-variants as J
 use Rattle.pass_records.specs.PassRecords.{
+  recordBytes,
+  mostRecords,
   recordCount,
   probeBits,
   receive,
@@ -57,10 +59,10 @@ pub third-probe : probeBits example 3 ≡ 0x413e_8480_0000_0000
 unfolding le
 third-probe = refl
 
-pub most-accepted : (file : List ℕ) → length file ≡ 65520 → recordCount file ≡ 1365
+pub most-accepted : (file : List ℕ) → length file ≡ mostRecords * recordBytes → recordCount file ≡ mostRecords
 unfolding recordCount
 most-accepted file e = rw e
 
-pub one-more-refused : (file : List ℕ) → length file ≡ 65568 → judge file ≡ J.BadLength
+pub one-more-refused : (file : List ℕ) → length file ≡ suc mostRecords * recordBytes → judge file ≡ J.BadLength
 unfolding judge recordCount
 one-more-refused file e = rw e

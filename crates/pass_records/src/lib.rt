@@ -7,6 +7,7 @@ ghost use Rattle.pass_records.specs.PassRecords as Records;
 
 pub const RECORD_BYTES: usize = 48;
 
+// The most records that a file may have.
 pub const MOST_RECORDS: usize = 1365;
 
 // The kinds of records.
@@ -32,7 +33,7 @@ pub enum Judged {
     BadNext,
 }
 
-// How many records a file has; 0 where its length is not 48 times 1 to 1,365.
+// Question 10: how many records a file has, and 0 where its length is not that of 1 to the most records.
 pub fn record_count(file: &[u8]) -> usize
     ensures { λ r. ⌜ r ≡ Records.recordCount (now (file .entry)) ⌝ }
 {
@@ -61,7 +62,7 @@ fn base(file: &[u8], k: usize) -> usize
 
 // The byte of record k at an offset.
 fn byte(file: &[u8], k: usize, offset: usize) -> u8
-    requires { ⌜ offset < 48 ⌝ }
+    requires { ⌜ offset < Records.recordBytes ⌝ }
     ensures { λ r. ⌜ r ≡ le 1 (now (file .entry)) (Records.base k + offset) ⌝ }
 {
     let at = base(file, k) + offset;
@@ -73,7 +74,7 @@ fn byte(file: &[u8], k: usize, offset: usize) -> u8
 
 // The number of 64 bits of record k at an offset.
 fn word(file: &[u8], k: usize, offset: usize) -> u64
-    requires { ⌜ offset < 48 ⌝ }
+    requires { ⌜ offset < Records.recordBytes ⌝ }
     ensures { λ r. ⌜ r ≡ le 8 (now (file .entry)) (Records.base k + offset) ⌝ }
 {
     le_bytes::read_u64(file, base(file, k) + offset)
