@@ -1,0 +1,3 @@
+pub mod PassRecords
+pub mod Laws
+pub mod Rows
