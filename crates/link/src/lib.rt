@@ -57,16 +57,10 @@ impl Opening {
         ensures { λ r. ⌜ Link.started r ≡ Link.opening «start_bitrate» «initial_window» window ⌝ }
     {
         let start = start_bitrate.as_f64();
-        if start < 40_000.0 {
+        if !((40_000.0 <= start) & (start <= 10_000_000_000.0)) {
             return Opened::BadStartBitrate;
         }
-        if !(start <= 10_000_000_000.0) {
-            return Opened::BadStartBitrate;
-        }
-        if !link_state::window_in(initial_window) {
-            return Opened::BadWindow;
-        }
-        if !link_state::window_in(window) {
+        if !(link_state::window_in(initial_window) & link_state::window_in(window)) {
             return Opened::BadWindow;
         }
         Opened::Accepted(Opening {
