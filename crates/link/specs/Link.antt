@@ -34,7 +34,7 @@ pub record Question : Type 0 where
   pub yes : Bool
 
 abbrev pub question : ℕ → Bool → Question
-question n yes = record { number = n; yes = yes }
+question n answer = record { number = n; yes = answer }
 
 -- the number of the first question that is answered with no; 0 if none is
 unfoldable pub firstNo : List Question → ℕ
@@ -112,9 +112,12 @@ unfoldable pub acceptedWith : Link → Outcome
 acceptedWith after = record { reply = accepted (estimate after) (hypothesis after) (nextTimeout after); link = after }
 
 -- a no leaves the link as it came in
+abbrev pub refusedBy : ℕ → Link → Outcome
+refusedBy n before = record { reply = refused n; link = before }
+
 unfoldable pub outcomeUnless : ℕ → Link → Link → Outcome
 outcomeUnless zero before after = acceptedWith after
-outcomeUnless (suc n) before after = record { reply = refused (suc n); link = before }
+outcomeUnless (suc n) before after = refusedBy (suc n) before
 
 -- ---- report
 -- packet i has sequence, size, send, remote and local receive instant at place i of five lists
@@ -134,13 +137,16 @@ report-of sequences sizes sends remotes receives probe now =
 abbrev pub mostInstant : ℕ
 mostInstant = 10 ^ 18
 
-unfoldable pub allAtMost : ℕ → List ℕ → Bool
-allAtMost most [] = true
-allAtMost most (x ∷ xs) = leb x most && allAtMost most xs
+-- every number of a list passes a test
+unfoldable pub every : (ℕ → Bool) → List ℕ → Bool
+every test [] = true
+every test (x ∷ xs) = test x && every test xs
 
-unfoldable pub allAtLeast : ℕ → List ℕ → Bool
-allAtLeast least [] = true
-allAtLeast least (x ∷ xs) = leb least x && allAtLeast least xs
+abbrev pub allAtMost : ℕ → List ℕ → Bool
+allAtMost most xs = every (λ x. leb x most) xs
+
+abbrev pub allAtLeast : ℕ → List ℕ → Bool
+allAtLeast least xs = every (λ x. leb least x) xs
 
 -- 4: are the lists of equal length, at most 1,024?
 unfoldable pub listsIn : List ℕ → List ℕ → List ℕ → List ℕ → List ℕ → Bool

@@ -2,7 +2,7 @@
 // turns down gives that question's answer and the link as it came in.
 ghost use mathlib.Core.Path.{_≡_};
 ghost use mathlib.Core.Bool.{true};
-ghost use Rattle.link.specs.Link as Link;
+ghost use Rattle.link.specs.Link as Calls;
 use acked_bitrate_estimator::AckedBitrateEstimator;
 use bandwidth::BandwidthUsage;
 use bandwidth::Bitrate;
@@ -54,13 +54,12 @@ const MOST_BYTES: DataSize = DataSize(2_147_483_647);
 impl Opening {
     // Windows are ns.
     pub fn judge(start_bitrate: Bitrate, initial_window: u64, window: u64) -> Opened
-        ensures { λ r. ⌜ Link.started r ≡ Link.opening «start_bitrate» «initial_window» window ⌝ }
+        ensures { λ r. ⌜ Calls.started r ≡ Calls.opening «start_bitrate» «initial_window» window ⌝ }
     {
-        let start = start_bitrate.as_f64();
-        if !((40_000.0 <= start) & (start <= 10_000_000_000.0)) {
+        if !start_in(start_bitrate) {
             return Opened::BadStartBitrate;
         }
-        if !(link_state::window_in(initial_window) & link_state::window_in(window)) {
+        if !windows_in(initial_window, window) {
             return Opened::BadWindow;
         }
         Opened::Accepted(Opening {
@@ -71,7 +70,7 @@ impl Opening {
     }
 
     pub fn link(self) -> Link
-        ensures { λ r. ⌜ r ≡ Link.link self ⌝ }
+        ensures { λ r. ⌜ r ≡ Calls.link self ⌝ }
     {
         let start_bitrate = self.start_bitrate;
         let acked = AckedBitrateEstimator::new(self.initial_window, self.window);
@@ -81,6 +80,19 @@ impl Opening {
 }
 
 // ---- the questions
+fn start_in(start_bitrate: Bitrate) -> bool
+    ensures { λ r. ⌜ r ≡ Calls.startIn («start_bitrate» .0) ⌝ }
+{
+    let start = start_bitrate.as_f64();
+    (40_000.0 <= start) & (start <= 10_000_000_000.0)
+}
+
+fn windows_in(initial_window: u64, window: u64) -> bool
+    ensures { λ r. ⌜ r ≡ Calls.windowsIn «initial_window» window ⌝ }
+{
+    link_state::window_in(initial_window) & link_state::window_in(window)
+}
+
 fn lists_in(
     sequences: &[u64],
     sizes: &[u64],
@@ -88,7 +100,7 @@ fn lists_in(
     remotes: &[u64],
     receives: &[u64],
 ) -> bool
-    ensures { λ r. ⌜ r ≡ Link.listsIn (now (sequences .entry)) (now (sizes .entry)) (now (sends .entry)) (now (remotes .entry)) (now (receives .entry)) ⌝ }
+    ensures { λ r. ⌜ r ≡ Calls.listsIn (now (sequences .entry)) (now (sizes .entry)) (now (sends .entry)) (now (remotes .entry)) (now (receives .entry)) ⌝ }
 {
     let n = sequences.len();
     (sizes.len() == n)
@@ -99,7 +111,7 @@ fn lists_in(
 }
 
 fn all_at_most(xs: &[u64], most: u64) -> bool
-    ensures { λ r. ⌜ r ≡ Link.allAtMost most (now (xs .entry)) ⌝ }
+    ensures { λ r. ⌜ r ≡ Calls.allAtMost most (now (xs .entry)) ⌝ }
 {
     let mut yes = true;
     let mut i = 0;
@@ -111,7 +123,7 @@ fn all_at_most(xs: &[u64], most: u64) -> bool
 }
 
 fn all_at_least(xs: &[u64], least: u64) -> bool
-    ensures { λ r. ⌜ r ≡ Link.allAtLeast least (now (xs .entry)) ⌝ }
+    ensures { λ r. ⌜ r ≡ Calls.allAtLeast least (now (xs .entry)) ⌝ }
 {
     let mut yes = true;
     let mut i = 0;
@@ -123,7 +135,7 @@ fn all_at_least(xs: &[u64], least: u64) -> bool
 }
 
 fn instants_in(sends: &[u64], remotes: &[u64], receives: &[u64]) -> bool
-    ensures { λ r. ⌜ r ≡ Link.instantsIn (now (sends .entry)) (now (remotes .entry)) (now (receives .entry)) ⌝ }
+    ensures { λ r. ⌜ r ≡ Calls.instantsIn (now (sends .entry)) (now (remotes .entry)) (now (receives .entry)) ⌝ }
 {
     all_at_most(sends, MOST_INSTANT)
         & all_at_most(remotes, MOST_INSTANT)
@@ -131,13 +143,13 @@ fn instants_in(sends: &[u64], remotes: &[u64], receives: &[u64]) -> bool
 }
 
 fn moment_in(now: u64) -> bool
-    ensures { λ r. ⌜ r ≡ Link.momentIn now ⌝ }
+    ensures { λ r. ⌜ r ≡ Calls.momentIn now ⌝ }
 {
     (now <= MOST_INSTANT) & (now % 1_000_000 == 0)
 }
 
 fn probe_in(probe: OptionBitrate) -> bool
-    ensures { λ r. ⌜ r ≡ Link.probeIn probe ⌝ }
+    ensures { λ r. ⌜ r ≡ Calls.probeIn probe ⌝ }
 {
     match probe {
         OptionBitrate::None => true,
@@ -150,7 +162,7 @@ fn probe_in(probe: OptionBitrate) -> bool
 
 // ---- the calls
 fn accepted(link: Link) -> Called
-    ensures { λ r. ⌜ Link.outcome r ≡ Link.acceptedWith link ⌝ }
+    ensures { λ r. ⌜ Calls.outcome r ≡ Calls.acceptedWith link ⌝ }
 {
     let control = link.control;
     let bitrate = control.last_estimate();
@@ -173,7 +185,7 @@ struct Acknowledged {
 }
 
 fn data_size(n: u64) -> DataSize
-    ensures { λ r. ⌜ r ≡ Link.dataSize n ⌝ }
+    ensures { λ r. ⌜ r ≡ Calls.dataSize n ⌝ }
 {
     if n > 0x7fff_ffff_ffff_ffff {
         return DataSize(0x7fff_ffff_ffff_ffff);
@@ -182,8 +194,8 @@ fn data_size(n: u64) -> DataSize
 }
 
 fn acknowledge(acked: AckedBitrateEstimator, remotes: &[u64], sizes: &[u64]) -> Acknowledged
-    ensures { λ r. ⌜ (r .acked ≡ Link.acknowledge acked (now (remotes .entry)) (now (sizes .entry)))
-        × (r .«sums_in» ≡ Link.sumsIn acked (now (remotes .entry)) (now (sizes .entry))) ⌝ }
+    ensures { λ r. ⌜ (r .acked ≡ Calls.acknowledge acked (now (remotes .entry)) (now (sizes .entry)))
+        × (r .«sums_in» ≡ Calls.sumsIn acked (now (remotes .entry)) (now (sizes .entry))) ⌝ }
 {
     let mut acked = acked;
     let mut sums_in = true;
@@ -210,7 +222,7 @@ fn process(
     probe: OptionBitrate,
     moment: u64,
 ) -> Called
-    ensures { λ r. ⌜ Link.outcome r ≡ Link.processed link (now (sizes .entry)) (now (sends .entry)) (now (remotes .entry)) (now (receives .entry)) probe moment ⌝ }
+    ensures { λ r. ⌜ Calls.outcome r ≡ Calls.processed link (now (sizes .entry)) (now (sends .entry)) (now (remotes .entry)) (now (receives .entry)) probe moment ⌝ }
 {
     let acked = link.acked;
     let control = link.control;
@@ -233,7 +245,7 @@ fn process(
     accepted(Link { acked, control })
 }
 
-// The same of packets in any order: they are put in order first.
+// The same of packets in any order: they are put in order first, unless they are.
 fn process_unsorted(
     link: Link,
     sequences: &[u64],
@@ -244,9 +256,12 @@ fn process_unsorted(
     probe: OptionBitrate,
     moment: u64,
 ) -> Called
-    requires { ⌜ Link.listsIn (now sequences) (now sizes) (now sends) (now remotes) (now receives) ≡ true ⌝ }
-    ensures { λ r. ⌜ Link.outcome r ≡ Link.processedUnsorted link (Link.report-of (now (sequences .entry)) (now (sizes .entry)) (now (sends .entry)) (now (remotes .entry)) (now (receives .entry)) probe moment) ⌝ }
+    requires { ⌜ Calls.listsIn (now sequences) (now sizes) (now sends) (now remotes) (now receives) ≡ true ⌝ }
+    ensures { λ r. ⌜ Calls.outcome r ≡ Calls.processedUnsorted link (Calls.report-of (now (sequences .entry)) (now (sizes .entry)) (now (sends .entry)) (now (remotes .entry)) (now (receives .entry)) probe moment) ⌝ }
 {
+    if receive_order::is_sorted(remotes, sends, sequences) {
+        return process(link, sizes, sends, remotes, receives, probe, moment);
+    }
     let n = remotes.len();
     let order = receive_order::order_by_receive_time(remotes, sends, sequences);
     let sizes = receive_order::gather(sizes, &order, n);
@@ -275,7 +290,7 @@ pub fn report(
     probe: OptionBitrate,
     moment: u64,
 ) -> Called
-    ensures { λ r. ⌜ Link.outcome r ≡ Link.report link (Link.report-of (now (sequences .entry)) (now (sizes .entry)) (now (sends .entry)) (now (remotes .entry)) (now (receives .entry)) probe moment) ⌝ }
+    ensures { λ r. ⌜ Calls.outcome r ≡ Calls.report link (Calls.report-of (now (sequences .entry)) (now (sizes .entry)) (now (sends .entry)) (now (remotes .entry)) (now (receives .entry)) probe moment) ⌝ }
 {
     if !link.in_range() {
         return Called {
@@ -313,9 +328,6 @@ pub fn report(
             link,
         };
     }
-    if receive_order::is_sorted(remotes, sends, sequences) {
-        return process(link, sizes, sends, remotes, receives, probe, moment);
-    }
     process_unsorted(
         link,
         sequences,
@@ -329,7 +341,7 @@ pub fn report(
 }
 
 pub fn timeout(link: Link, now: u64) -> Called
-    ensures { λ r. ⌜ Link.outcome r ≡ Link.timeout link now ⌝ }
+    ensures { λ r. ⌜ Calls.outcome r ≡ Calls.timeout link now ⌝ }
 {
     if !link.in_range() {
         return Called {
