@@ -1,6 +1,8 @@
 //! The oracle: the Rust of the documents' folder, with shims for what its modules lean on. `build` beside this file compiles it.
 //!
 //!     oracle make MODULE SEED COUNT     cases with the Rust's answers, to standard output
+//!     oracle distance A B               how far the first answers (floats) of two files of cases lie apart
+//!     oracle entries                    how far the growth table lies from this machine's `powf`
 //!
 //! A case is 12 words of 8 bytes, little-endian: an operation, 5 inputs, 6 answers. drive.rs has the operations, make.rs the cases.
 #[macro_export]
@@ -71,14 +73,17 @@ mod bwe {
     pub mod drive;
 }
 
+mod distance;
 mod make;
 
 fn main() {
     let words: Vec<String> = std::env::args().collect();
     match words.get(1).map(String::as_str) {
         Some("make") if words.len() == 5 => make::make(&words[2], words[3].parse().unwrap(), words[4].parse().unwrap()),
+        Some("distance") if words.len() == 4 => distance::distance(&words[2], &words[3]),
+        Some("entries") if words.len() == 2 => distance::entries(),
         _ => {
-            eprintln!("usage: oracle make MODULE SEED COUNT");
+            eprintln!("usage: oracle make MODULE SEED COUNT, oracle distance A B, or oracle entries");
             std::process::exit(2);
         }
     }

@@ -1,3 +1,4 @@
 pub mod RateControl
 pub mod Constants
+pub mod Laws
 pub mod Rows

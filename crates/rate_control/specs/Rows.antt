@@ -62,3 +62,7 @@ steps = true
 
 rows-hold : T (every rows)
 rows-hold = unfold steps in tt
+
+-- an increase may give a lower estimate: one and a half times the observed rate
+increase-falls : T (Ieee.lt (increase fresh (B.bps 661000) 0 .«estimated_bitrate» .0) (fresh .«estimated_bitrate» .0))
+increase-falls = unfold steps in tt

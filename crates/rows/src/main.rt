@@ -4,6 +4,7 @@ use arrival_group::ArrivalGroup;
 use bandwidth::DataSize;
 use bandwidth::OptionBitrate;
 use libc::STDOUT_FILENO;
+use trendline::Delays;
 
 // Two packets of which the second is sent and received so many ns after the first.
 fn group(name: &[u8], spacing: u64) {
@@ -30,8 +31,24 @@ fn window(name: &[u8]) {
     ;
 }
 
+// The threshold of 12.5 ms, 100 ms after its last update.
+fn threshold(name: &[u8], modified_trend: f64) {
+    let delays = Delays::new();
+    io::write_all(STDOUT_FILENO, name);
+    if delays.threshold(modified_trend, 100_000_000) == delays.delay_threshold {
+        io::write_all(STDOUT_FILENO, b": stays\n");
+        return;
+    }
+    io::write_all(STDOUT_FILENO, b": adapts\n");
+}
+
 fn main() {
     group(b"send and remote spacing of 5 ms", 5_000_000);
     group(b"send and remote spacing of 6 ms", 6_000_000);
     window(b"sizes at 0 and 500 ms only");
+    threshold(b"modified trend 27.5", 27.5);
+    threshold(
+        b"modified trend 27.5, and a unit in the last place more",
+        27.500000000000004,
+    );
 }

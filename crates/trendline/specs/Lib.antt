@@ -1,3 +1,10 @@
 pub mod Trendline
 pub mod Constants
 pub mod Rows
+pub mod Cases
+pub mod Threshold
+pub mod History
+pub mod Term
+pub mod Slope
+pub mod Milliseconds
+pub mod Laws
