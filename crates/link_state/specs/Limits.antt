@@ -3,7 +3,7 @@ use mathlib.Core.Path.{_≡_, refl, sym, ap, _∙_, subst}
 use mathlib.Core.Logic.{inl, inr}
 use mathlib.Core.Bool.{Bool, true, false}
 use Prim.Native.Nat.{ℕ, suc, _+_, _*_, _^_, _≤_, _<_}
-use native.Mathlib.Nat.{le-trans as nat-le-trans, le-of-eq as nat-le-of-eq, lt-of-le-of-lt, lt-of-lt-of-le, lt-of-not-le, mul-assoc, mul-right-comm, mul-le-mul-left, mul-le-mul-right, mul-lt-mul-of-pos-right}
+use native.Mathlib.Nat.{le-of-eq as nat-le-of-eq, lt-of-le-of-lt, lt-of-lt-of-le, lt-of-not-le, mul-assoc, mul-right-comm, mul-le-mul-left, mul-le-mul-right, mul-lt-mul-of-pos-right}
 use native.Mathlib.Omega.{arith}
 use lib.IntN.{pos}
 use lib.Dec.{T, leb, leb→le, le→leb, lit<, lit≤}
