@@ -11,7 +11,6 @@ use arrival_group::OptionFirst;
 use arrival_group::OptionGroup;
 use average::MovingAverage;
 use average::OptionF64;
-use bandwidth::Bitrate;
 use bandwidth::DataSize;
 use bandwidth::OptionBitrate;
 use control::DelayController;

@@ -35,8 +35,8 @@ use Rattle.trendline.specs.declared.TrendlineEstimator.{TrendlineEstimat
 use Rattle.trendline.specs.Cases.{cases}
 use Rattle.trendline.specs.Trendline.{smoothingCoef, one, place, add, accumulate, addToHistory, linearFit, modifiedTrend, withTrend, overUseTimeThreshold, nextOveruse, overusing, judge, detect, new, addDelayObservation}
 use Rattle.trendline.specs.History.{First, Ascending, placed, insert-length, insert-each, insert-ascending, insert-full-length, insert-full-each, insert-full-ascending}
-use Rattle.trendline.specs.Milliseconds.{wider, time-in, delta-in}
-use Rattle.trendline.specs.Slope.{Bounded, fit, sums-in, slope-in, fit-ordered}
+use Rattle.trendline.specs.Milliseconds.{time-in, delta-in}
+use Rattle.trendline.specs.Slope.{Bounded, fit, wider, sums-in, slope-in, fit-ordered}
 use Rattle.trendline.specs.Threshold.{ThresholdIn, modified-ordered, threshold-in}
 
 -- ---- the claims

@@ -25,12 +25,9 @@ use Rattle.arrival_group.specs.Laws.{AtMost}
 use Rattle.arrival_group.specs.declared.InterGroupDelayDelta.{InterGroupDelayDelta}
 use Rattle.trendline.specs.Cases.{cases}
 use Rattle.trendline.specs.Trendline.{thousand, delayDelta, timeSince}
-use Rattle.trendline.specs.Slope.{nonneg-within}
+use Rattle.trendline.specs.Slope.{wider, nonneg-within}
 
 -- ---- ms of a length of time
-pub wider : {a b x : Float} → T (le a b) → Within a x → Within b x
-wider {a} {b} {x} l h = record { low = le-trans (neg b) (neg a) x (neg-le a b l) (h .low); high = le-trans x a b (h .high) l }
-
 within-neg : {a x : Float} → Within a x → Within a (neg x)
 within-neg {a} {x} h = record { low = neg-le x a (h .high); high = subst (λ (z : Float). T (le (neg x) z)) (neg-neg a) (neg-le (neg a) x (h .low)) }
 

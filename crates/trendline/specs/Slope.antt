@@ -26,7 +26,7 @@ use Rattle.trendline.specs.declared.Fit.{Fit}
 use Rattle.trendline.specs.Cases.{cases}
 use Rattle.trendline.specs.Trendline.{totalFrom, total, withPoint, sumsFrom, sums, average, linearFit}
 use Rattle.trendline.specs.History.{First}
-use Rattle.trendline.specs.Term.{Times, times-wider, times-add, times-div, term}
+use Rattle.trendline.specs.Term.{Scaled, scaled-wider, scaled-add, scaled-div, term}
 
 -- ---- the claims
 abbrev pub Time : Float → Type 0
@@ -60,6 +60,9 @@ each-map [] f h = tt
 each-map (x ∷ xs) f h = (f x (h .0), each-map xs f (h .1))
 
 -- ---- totals
+pub wider : {a b x : Float} → T (le a b) → Within a x → Within b x
+wider {a} {b} {x} l h = record { low = le-trans (neg b) (neg a) x (neg-le a b l) (h .low); high = le-trans x a b (h .high) l }
+
 -- |x| ≤ a and |y| ≤ b give |x + y| ≤ a + b, each sum rounded
 abbrev adds : Float → Float → Bool
 adds a b = ends (neg a) a (neg b) b && (le (neg (add a b)) (add (neg a) (neg b)) && le (add a b) (add a b))
@@ -71,7 +74,7 @@ reaches a b (suc n) e = adds a b && reaches (add a b) b n e
 
 total-in : (a b e s : Float) (xs : List Float) → Within a s → Each (Within b) xs → T (reaches a b (length xs) e) → Within e (totalFrom s xs)
 unfolding totalFrom
-total-in a b e s [] h k t = record { low = le-trans (neg e) (neg a) s (neg-le a e t) (h .low); high = le-trans s a e (h .high) t }
+total-in a b e s [] h k t = wider t h
 total-in a b e s (x ∷ xs) h k t =
     let r = reaches (add a b) b (length xs) e in
     total-in (add a b) b e (add s x) xs (add-in h (k .0) (and-l (adds a b) r t)) (k .1) (and-r (adds a b) r t)
@@ -85,33 +88,22 @@ pub nonneg-within : {b x : Float} → In zero₊ b x → Within b x
 nonneg-within {b} {x} h =
     record { low = le-trans (neg b) zero₊ x (le-trans (neg b) (neg zero₊) zero₊ (neg-le zero₊ b (le-trans zero₊ x b (h .low) (h .high))) (unfold floats in tt)) (h .low); high = h .high }
 
-module _ (b e : Float) where
-  total-above : (a s : Float) (xs : List Float) → T (fits binary64 s) → Within a s → Each (Part b) xs → T (reaches a b (length xs) e) → T (le s (totalFrom s xs))
-  unfolding totalFrom
-  total-above a s [] f h k t = le-refl s (in-ordered h)
-  total-above a s (x ∷ xs) f h k t =
-      let r = reaches (add a b) b (length xs) e in
-      let q = and-l (adds a b) r t in
-      let g = and-l (ends (neg a) a (neg b) b) _ q in
-      let w = nonneg-within (k .0 .range) in
-      le-trans s (add s x) (totalFrom (add s x) xs) (le-add binary64 s x f (in-finite h (and-l (finite (neg a) && finite a) _ g)) (in-finite w (and-r (finite (neg a) && finite a) _ g)) (k .0 .range .low))
-      (total-above (add a b) (add s x) xs (add-fits binary64 s x) (add-in h w q) (k .1) (and-r (adds a b) r t))
-
-  each-below : (a s : Float) (xs : List Float) → T (le zero₊ s) → Within a s → Each (Part b) xs → T (reaches a b (length xs) e) → Each (λ (x : Float). T (le x (totalFrom s xs))) xs
-  unfolding totalFrom
-  each-below a s [] z h k t = tt
-  each-below a s (x ∷ xs) z h k t =
-      let r = reaches (add a b) b (length xs) e in
-      let q = and-l (adds a b) r t in
-      let g = and-l (ends (neg a) a (neg b) b) _ q in
-      let w = nonneg-within (k .0 .range) in
-      let S = in-finite h (and-l (finite (neg a) && finite a) _ g) in
-      let X = in-finite w (and-r (finite (neg a) && finite a) _ g) in
-      let next = add-in h w q in
-      let u = and-r (adds a b) r t in (
-        le-trans x (add s x) (totalFrom (add s x) xs) (rw (add-comm binary64 s x) (le-add binary64 x s (k .0 .held) X S z)) (total-above (add a b) (add s x) xs (add-fits binary64 s x) next (k .1) u),
-        each-below (add a b) (add s x) xs (add-nonneg binary64 s x S X z (k .0 .range .low)) next (k .1) u,
-      )
+total-above : (a b e s : Float) (xs : List Float) → T (le zero₊ s) → T (fits binary64 s) → Within a s → Each (Part b) xs → T (reaches a b (length xs) e)
+    → T (le s (totalFrom s xs)) × Each (λ (x : Float). T (le x (totalFrom s xs))) xs
+unfolding totalFrom
+total-above a b e s [] z f h k t = (le-refl s (in-ordered h), tt)
+total-above a b e s (x ∷ xs) z f h k t =
+    let r = reaches (add a b) b (length xs) e in
+    let q = and-l (adds a b) r t in
+    let g = and-l (ends (neg a) a (neg b) b) _ q in
+    let w = nonneg-within (k .0 .range) in
+    let S = in-finite h (and-l (finite (neg a) && finite a) _ g) in
+    let X = in-finite w (and-r (finite (neg a) && finite a) _ g) in
+    let total = totalFrom (add s x) xs in
+    let rest = total-above (add a b) b e (add s x) xs (add-nonneg binary64 s x S X z (k .0 .range .low)) (add-fits binary64 s x) (add-in h w q) (k .1) (and-r (adds a b) r t) in (
+      le-trans s (add s x) total (le-add binary64 s x f S X (k .0 .range .low)) (rest .0),
+      (le-trans x (add s x) total (rw (add-comm binary64 s x) (le-add binary64 x s (k .0 .held) X S z)) (rest .0), rest .1),
+    )
 
 -- ---- the sums as totals of terms (x - avgX) * (y - avgY)
 abbrev terms : List Float → List Float → Float → Float → List Float
@@ -156,19 +148,19 @@ module _ (avgX avgY : Float) (mx : Within (two^ 40) avgX) (my : Within (nat (101
 
   -- the terms of the numerator, against a D that is at least each square
   module _ (D : Float) (k : ℕ) (P : T (positive D)) (f : T (fits binary64 D)) (high : T (le D (two^ k))) (room : k + 688 < 1024) where
-    products-times : (xs ys : List Float) → Each Time xs → Each Delay ys → Each (λ (q : Float). T (le q D)) (terms xs xs avgX avgX) → Each (Times D 668) (terms xs ys avgX avgY)
-    products-times [] ys h g l = tt
-    products-times (x ∷ xs) [] h g l = tt
-    products-times (x ∷ xs) (y ∷ ys) h g l =
-        (term D k P f high (sub x avgX) (in-finite (time-apart x (h .0)) (unfold floats in tt)) (sub-fits binary64 x avgX) (l .0) (sub y avgY) 104 668 (lit≤ tt) (omega arith) (delay-apart y (g .0)), products-times xs ys (h .1) (g .1) (l .1))
+    products-scaled : (xs ys : List Float) → Each Time xs → Each Delay ys → Each (λ (q : Float). T (le q D)) (terms xs xs avgX avgX) → Each (Scaled D 668) (terms xs ys avgX avgY)
+    products-scaled [] ys h g l = tt
+    products-scaled (x ∷ xs) [] h g l = tt
+    products-scaled (x ∷ xs) (y ∷ ys) h g l =
+        (term D k P f high (sub x avgX) (in-finite (time-apart x (h .0)) (unfold floats in tt)) (sub-fits binary64 x avgX) (l .0) (sub y avgY) 104 668 (lit≤ tt) (omega arith) (delay-apart y (g .0)), products-scaled xs ys (h .1) (g .1) (l .1))
 
-    total-times : (t : ℕ) (s : Float) (qs : List Float) → 668 ≤ t → t + length qs ≤ 688 → Times D t s → Each (Times D 668) qs → Times D (t + length qs) (totalFrom s qs)
+    total-scaled : (t : ℕ) (s : Float) (qs : List Float) → 668 ≤ t → t + length qs ≤ 688 → Scaled D t s → Each (Scaled D 668) qs → Scaled D (t + length qs) (totalFrom s qs)
     unfolding totalFrom
-    total-times t s [] l r h g = times-wider D s t (t + 0) (omega arith) h
-    total-times t s (q ∷ qs) l r h g =
-        let next : Times D (suc t) (add s q) = times-add D k P f high s q t (omega arith) h (times-wider D q 668 t l (g .0)) in
+    total-scaled t s [] l r h g = scaled-wider D s t (t + 0) (omega arith) h
+    total-scaled t s (q ∷ qs) l r h g =
+        let next : Scaled D (suc t) (add s q) = scaled-add D k P f high s q t (omega arith) h (scaled-wider D q 668 t l (g .0)) in
         let e : suc t + length qs ≡ t + suc (length qs) = omega arith in
-        subst (λ (u : ℕ). Times D u (totalFrom (add s q) qs)) e (total-times (suc t) (add s q) qs (omega arith) (omega arith) next (g .1))
+        subst (λ (u : ℕ). Scaled D u (totalFrom (add s q) qs)) e (total-scaled (suc t) (add s q) qs (omega arith) (omega arith) next (g .1))
 
 -- ---- a denominator that is not 0 is above it
 zero-is : lit 0 ≡ zero₊
@@ -181,8 +173,8 @@ positive-of D F z e = elim (either (le D zero₊)) [
   | inr t ↦ positive-of-lt D F (not-le→lt D zero₊ (finite-ordered D F) tt t)
 ]
 
-zero-times : (D : Float) (t : ℕ) → Times D t (lit 0)
-zero-times D t = rw zero-is (record { fine = tt; most = none (over D * 2 ^ t) (den D) })
+zero-scaled : (D : Float) (t : ℕ) → Scaled D t (lit 0)
+zero-scaled D t = rw zero-is (record { fine = tt; most = none (over D * 2 ^ t) (den D) })
   where
     none : (a c : ℕ) → 0 * c ≤ a * 1
     none a c = omega arith
@@ -227,6 +219,9 @@ module _ (times delays : List Float) (m : length times ≡ 20) (n : length delay
   squares-test : T (reaches zero₊ (two^ 82) (length squares) (nat (20 * 2 ^ 82)))
   squares-test = rw (terms-length times times (average times) (average times) refl, m) (unfold floats in tt)
 
+  squares-above : T (le (lit 0) (total squares)) × Each (λ (q : Float). T (le q (total squares))) squares
+  squares-above = total-above zero₊ (two^ 82) (nat (20 * 2 ^ 82)) (lit 0) squares (unfold floats in tt) (ofBits-fits binary64 0) zero-in squares-parts squares-test
+
   numerator-is : fit times delays .numerator ≡ total products
   numerator-is = numerator-total (record { numerator = lit 0; denominator = lit 0 }) times delays (average times) (average delays)
 
@@ -242,7 +237,7 @@ module _ (times delays : List Float) (m : length times ≡ 20) (n : length delay
   denominator-in =
       let w = total-in zero₊ (two^ 82) (nat (20 * 2 ^ 82)) (lit 0) squares zero-in (each-map squares (λ x p. nonneg-within (p .range)) squares-parts) squares-test in
       record {
-        low = le-trans zero₊ (lit 0) (total squares) (unfold floats in tt) (total-above (two^ 82) (nat (20 * 2 ^ 82)) zero₊ (lit 0) squares (ofBits-fits binary64 0) zero-in squares-parts squares-test);
+        low = le-trans zero₊ (lit 0) (total squares) (unfold floats in tt) (squares-above .0);
         high = w .high;
       }
 
@@ -263,11 +258,10 @@ module _ (times delays : List Float) (m : length times ≡ 20) (n : length delay
       let P = positive-of D (in-finite denominator-in tt) (denominator-in .low) e in
       let f = total-fits (lit 0) squares (ofBits-fits binary64 0) in
       let high : T (le D (two^ 87)) = le-trans D (nat (20 * 2 ^ 82)) (two^ 87) (denominator-in .high) (unfold floats in tt) in
-      let each = each-below (two^ 82) (nat (20 * 2 ^ 82)) zero₊ (lit 0) squares (unfold floats in tt) zero-in squares-parts squares-test in
       let few : length products ≡ 20 = terms-length times delays (average times) (average delays) (m ∙ sym n) ∙ m in
-      let parts = products-times (average times) (average delays) times-average-in delays-average-in D 87 P f high (lit< tt) times delays hs gs each in
-      let w = total-times (average times) (average delays) times-average-in delays-average-in D 87 P f high (lit< tt) 668 (lit 0) products (lit≤ tt) (rw few (lit≤ tt)) (zero-times D 668) parts in
-      times-div D 87 P f high (total products) 688 (lit< tt) (rw few at w)
+      let parts = products-scaled (average times) (average delays) times-average-in delays-average-in D 87 P f high (lit< tt) times delays hs gs (squares-above .1) in
+      let w = total-scaled (average times) (average delays) times-average-in delays-average-in D 87 P f high (lit< tt) 668 (lit 0) products (lit≤ tt) (rw few (lit≤ tt)) (zero-scaled D 668) parts in
+      scaled-div D 87 P f high (total products) 688 (lit< tt) (rw few at w)
 
   pub slope-in : Ieee.eq (fit times delays .denominator) (lit 0) ≡ false → Within (two^ 688) (div (fit times delays .numerator) (fit times delays .denominator))
   slope-in e = rw (numerator-is, denominator-is) (slope-total (rw denominator-is at e))

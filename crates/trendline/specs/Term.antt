@@ -35,6 +35,9 @@ num-neg (fin s m e) = refl
 size-neg : {a c : ℕ} {x : Float} → Size a c x → Size a c (neg x)
 size-neg {a} {c} {x} h = record { fine = finite-neg x (h .fine); most = rw (num-neg x, den-neg x) (h .most) }
 
+less : (i j k : ℕ) → i ≤ j + k → i - j ≤ k
+less i j k h = omega arith
+
 -- what is rounded stays so, where a / c is a float
 module _ {a c : ℕ} (g : Dyadic a c) (C : 0 < c) (top : a < 2 ^ 1024 * c) where
   size-round : (k d : ℕ) → 0 < d → k * c ≤ a * d → Size a c (round binary64 false k d)
@@ -53,14 +56,8 @@ module _ {a c : ℕ} (g : Dyadic a c) (C : 0 < c) (top : a < 2 ^ 1024 * c) where
   -- (p - n) / d, of which k is the size or more
   size-rounds : {z : Float} {p n d : ℕ} (k : ℕ) → Rounds binary64 z p n d → 0 < d → p ≤ n + k → n ≤ p + k → k * c ≤ a * d → Size a c z
   size-rounds {z} {p} {n} {d} k (inl r) D h l m = rw (r .1) (size-round (p - n) d D (nat-le-trans (mul-le-mul-right c (less p n k h)) m))
-    where
-      less : (i j k : ℕ) → i ≤ j + k → i - j ≤ k
-      less i j k h = omega arith
   size-rounds {z} {p} {n} {d} k (inr r) D h l m =
       rw (r .1, ← neg-round binary64 (n - p) d) (size-neg (size-round (n - p) d D (nat-le-trans (mul-le-mul-right c (less n p k l)) m)))
-    where
-      less : (i j k : ℕ) → i ≤ j + k → i - j ≤ k
-      less i j k h = omega arith
 
 -- ---- the parts of a value, and of a product, against its size
 signed : (s : Bool) (a : ℕ) → (gain s a ≤ a) × (loss s a ≤ a)
@@ -127,11 +124,11 @@ square-rounds (fin s m e) p = rw (likes s (m * up e), unlikes s (m * up e)) at (
 
 -- ---- a denominator D above zero, at most 2 ^ k
 -- |x| ≤ 2 ^ t * D
-abbrev pub Times : Float → ℕ → Float → Type 0
-Times D t x = Size (over D * 2 ^ t) (den D) x
+abbrev pub Scaled : Float → ℕ → Float → Type 0
+Scaled D t x = Size (over D * 2 ^ t) (den D) x
 
-pub times-wider : (D x : Float) (t u : ℕ) → t ≤ u → Times D t x → Times D u x
-times-wider D x t u l h = record { fine = h .fine; most = nat-le-trans (h .most) (mul-le-mul-right (den x) (mul-le-mul-left (over D) (pow-mono l))) }
+pub scaled-wider : (D x : Float) (t u : ℕ) → t ≤ u → Scaled D t x → Scaled D u x
+scaled-wider D x t u l h = record { fine = h .fine; most = nat-le-trans (h .most) (mul-le-mul-right (den x) (mul-le-mul-left (over D) (pow-mono l))) }
 
 module _ (D : Float) (k : ℕ) (P : T (positive D)) (f : T (fits binary64 D)) (high : T (le D (two^ k))) where
   DF : T (finite D)
@@ -148,16 +145,16 @@ module _ (D : Float) (k : ℕ) (P : T (positive D)) (f : T (fits binary64 D)) (h
       (nat-le-trans (mul-le-mul-right (2 ^ t) h) (nat-le-of-eq (mul-right-comm (2 ^ k) (den D) (2 ^ t) ∙ ap (λ (z : ℕ). z * den D) (sym (pow-add 2 k t)))))
       (mul-lt-mul-of-pos-right (pow-lt l) (den-pos D))
 
-  times-rounds : {z : Float} {p n d : ℕ} (t m : ℕ) → k + t < 1024 → Rounds binary64 z p n d → 0 < d → p ≤ n + m → n ≤ p + m → m * den D ≤ over D * 2 ^ t * d
-      → Times D t z
-  times-rounds t m l r D' h g b = size-rounds (dyadic-up grid t) (den-pos D) (below-top t l) m r D' h g b
+  scaled-rounds : {z : Float} {p n d : ℕ} (t m : ℕ) → k + t < 1024 → Rounds binary64 z p n d → 0 < d → p ≤ n + m → n ≤ p + m → m * den D ≤ over D * 2 ^ t * d
+      → Scaled D t z
+  scaled-rounds t m l r D' h g b = size-rounds (dyadic-up grid t) (den-pos D) (below-top t l) m r D' h g b
 
   -- one more term doubles the bound at most
-  pub times-add : (x y : Float) (t : ℕ) → k + suc t < 1024 → Times D t x → Times D t y → Times D (suc t) (add x y)
-  times-add x y t l h g =
+  pub scaled-add : (x y : Float) (t : ℕ) → k + suc t < 1024 → Scaled D t x → Scaled D t y → Scaled D (suc t) (add x y)
+  scaled-add x y t l h g =
       let p = parts x in
       let q = parts y in
-      times-rounds (suc t) (num x * den y + num y * den x) l (add-rounds binary64 x y (h .fine) (g .fine)) (mul-pos (den-pos x) (den-pos y))
+      scaled-rounds (suc t) (num x * den y + num y * den x) l (add-rounds binary64 x y (h .fine) (g .fine)) (mul-pos (den-pos x) (den-pos y))
       (sum (over x) (under x) (num x) (den x) (over y) (under y) (num y) (den y) (p .0) (q .0))
       (sum (under x) (over x) (num x) (den x) (under y) (over y) (num y) (den y) (p .1) (q .1))
       (rw (← doubled t) (cross (num x) (den x) (num y) (den y) (den D) (over D) (2 ^ t) (h .most) (g .most)))
@@ -169,8 +166,8 @@ module _ (D : Float) (k : ℕ) (P : T (positive D)) (f : T (fits binary64 D)) (h
       cross nx dx ny dy d o W h k = omega (arith, mul-le-mul-right dy h, mul-le-mul-right dx k)
 
   -- |N| ≤ 2 ^ t * D: the quotient is 2 ^ t at most
-  pub times-div : (N : Float) (t : ℕ) → t < 1024 → Times D t N → Within (two^ t) (div N D)
-  times-div N t l h =
+  pub scaled-div : (N : Float) (t : ℕ) → t < 1024 → Scaled D t N → Within (two^ t) (div N D)
+  scaled-div N t l h =
       let p = parts N in
       size-within (div N D) t
       (size-rounds (two-dyadic t) (zero-lt-suc 0) (lt-of-lt-of-le (pow-lt l) (nat-le-of-eq (sym (mul-one (2 ^ 1024))))) (num N * den D) (div-rounds binary64 N D (h .fine) P) (mul-pos (positive-over D P) (den-pos N))
@@ -216,16 +213,16 @@ module _ (D : Float) (k : ℕ) (P : T (positive D)) (f : T (fits binary64 D)) (h
             let k : ob * dD ≤ oD * db = omega (arith, rw z at h) in
             le-of-mul-le-mul-right (omega (arith, mul-le-mul-right (d * R) k, ap (λ (z : ℕ). z * dD) e, mul-le-mul-right (oD * d * db) v)) B
 
-    distance : Times D 564 x
+    distance : Scaled D 564 x
     distance = record { fine = X; most = elim (either (leb (num x * 2 ^ 510) (den x))) [ inl t ↦ small (leb→le (num x * 2 ^ 510) (den x) t) | inr t ↦ large (le-of-lt (nleb→lt (num x * 2 ^ 510) (den x) t)) ] }
 
     -- |y| ≤ 2 ^ h
-    pub term : (y : Float) (h t : ℕ) → 564 + h ≤ t → k + t < 1024 → Within (two^ h) y → Times D t (mul x y)
+    pub term : (y : Float) (h t : ℕ) → 564 + h ≤ t → k + t < 1024 → Within (two^ h) y → Scaled D t (mul x y)
     term y h t l s w =
         let Y = within-size y h w in
         let p = product-parts x y X (Y .fine) in
         let b : 2 ^ 564 * 2 ^ h ≤ 2 ^ t = nat-le-trans (nat-le-of-eq (sym (pow-add 2 564 h))) (pow-mono l) in
-        times-rounds t (num x * num y) s (mul-rounds binary64 x y X (Y .fine)) (mul-pos (den-pos x) (den-pos y)) (omega (arith, p .0)) (omega (arith, p .1))
+        scaled-rounds t (num x * num y) s (mul-rounds binary64 x y X (Y .fine)) (mul-pos (den-pos x) (den-pos y)) (omega (arith, p .0)) (omega (arith, p .1))
         (cross (num x) (num y) (den x) (den y) (over D) (den D) (2 ^ 564) (2 ^ h) (2 ^ t) (distance .most) (Y .most) b)
       where
         cross : (nx ny dx dy o d W H R : ℕ) → nx * d ≤ o * W * dx → ny * 1 ≤ H * dy → W * H ≤ R → nx * ny * d ≤ o * R * (dx * dy)
