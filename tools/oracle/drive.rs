@@ -5,6 +5,7 @@ use super::delay::arrival_group::{ArrivalGroupAccumulator, InterGroupDelayDelta}
 use super::delay::control::DelayController;
 use super::delay::rate_control::{RateControl, Signal};
 use super::delay::trendline::TrendlineEstimator;
+use super::link::{self, Link, Lists};
 use super::time::{TimeDelta, Timestamp};
 use super::{AckedPacket, BandwidthUsage};
 use crate::rtp_::{Bitrate, DataSize, TwccSeq};
@@ -81,7 +82,7 @@ fn usage(u: BandwidthUsage) -> u64 {
 }
 
 // Hypothesis with the counts of variations and of overuse (at most 2), threshold, trend, sums, and the time of overuse.
-fn trend_words(t: &TrendlineEstimator) -> Answers {
+pub fn trend_words(t: &TrendlineEstimator) -> Answers {
     let (threshold, trend, accumulated, smoothed, count, overuse) = t.peek();
     let (n, tag, time) = overuse.map_or((0, 0, 0), |(n, d)| (n, delta_words(d).0 + 1, delta_words(d).1));
     [usage(t.hypothesis()) | count << 8 | n << 32 | tag << 40, bits(threshold), bits(trend), bits(accumulated), bits(smoothed), time]
@@ -96,6 +97,8 @@ pub struct States {
     rate: RateControl,
     control: DelayController,
     packets: Vec<AckedPacket>,
+    link: Link,
+    lists: Lists,
 }
 
 impl States {
@@ -108,6 +111,8 @@ impl States {
             rate: RateControl::new(Bitrate::bps(1_000_000), Bitrate::kbps(40), Bitrate::gbps(10)),
             control: DelayController::new(Bitrate::bps(1_000_000)),
             packets: Vec::new(),
+            link: link::open(1e6, 500_000_000, 150_000_000).ok().unwrap(),
+            lists: Lists::default(),
         }
     }
 
@@ -120,7 +125,8 @@ impl States {
             50..60 => self.trendline(op, i),
             60..70 => self.rate(op, i),
             70..80 => self.control(op, i),
-            _ => bandwidth(op, i),
+            80..90 => bandwidth(op, i),
+            _ => self.link(op, i),
         }
     }
 
@@ -176,6 +182,35 @@ impl States {
         let (trend, rtt) = self.control.peek();
         let t = trend_words(trend);
         [bits(self.control.last_estimate().unwrap().as_f64()), t[0], since_zero(self.control.poll_timeout()), t[1], rtt.0, rtt.1]
+    }
+
+    // Opening, a packet that waits, a report of those that wait, of which one list may be one short, and a timeout. A refused opening leaves the link.
+    fn link(&mut self, op: u64, i: [u64; 5]) -> Answers {
+        let number = match op {
+            90 => match link::open(f64::from_bits(i[0]), i[1], i[2]) {
+                Ok(link) => {
+                    self.link = link;
+                    0
+                }
+                Err(number) => number,
+            },
+            91 => {
+                for (list, x) in self.lists.iter_mut().zip(i) {
+                    list.push(x);
+                }
+                return [0; 6];
+            }
+            92 => {
+                let mut lists = std::mem::take(&mut self.lists);
+                if i[3] > 0 {
+                    lists[i[3] as usize - 1].pop();
+                }
+                self.link.report(&lists, (i[0] == 1).then(|| f64::from_bits(i[1])), i[2])
+            }
+            _ => self.link.timeout(i[0]),
+        };
+        let s = self.link.shown();
+        [number, s[0], s[1], s[2], s[3], s[4]]
     }
 
     fn average(&mut self, op: u64, i: [u64; 5]) -> Answers {

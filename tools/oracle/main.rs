@@ -71,6 +71,7 @@ mod bwe {
     include!("items.rs");
 
     pub mod drive;
+    pub mod link;
 }
 
 mod distance;

@@ -44,6 +44,7 @@ impl Random {
 }
 
 const MS: u64 = 1_000_000;
+const MOST: u64 = 1_000_000_000_000_000_000;
 
 pub fn make(module: &str, seed: u64, count: u64) {
     let mut r = Random(seed.wrapping_mul(0x9e37_79b9_7f4a_7c15) | 1);
@@ -60,6 +61,7 @@ pub fn make(module: &str, seed: u64, count: u64) {
             "trendline" => maker.trendline(&mut r),
             "rate" => maker.rate(&mut r),
             "control" => maker.control(&mut r),
+            "link" => maker.link(&mut r),
             _ => panic!("no such module"),
         };
         let answers = states.run(op, i);
@@ -141,6 +143,12 @@ struct Maker {
     queue: u64,
     left: u64,
     started: bool,
+    size: u64,
+    wild: bool,
+    seq: u64,
+    waiting: u64,
+    remote_offset: u64,
+    recent: Vec<[u64; 5]>,
 }
 
 impl Maker {
@@ -335,5 +343,124 @@ impl Maker {
         }
         let probe = r.one_in(40) as u64;
         (72, [r.below(8).min(1) | probe << 1, acked.to_bits(), f64::to_bits(acked * 1.5), self.now, 0])
+    }
+
+    // A whole link: runs of a realistic path with phases of congestion, and wild ones with every boundary of every question.
+    fn link(&mut self, r: &mut Random) -> (u64, [u64; 5]) {
+        if !std::mem::replace(&mut self.started, true) || r.one_in(30_000) {
+            return self.opening(r);
+        }
+        if self.left > 0 {
+            self.left -= 1;
+            self.waiting += 1;
+            return (91, self.packet(r));
+        }
+        self.recent.clear();
+        self.left = match r.below(40) {
+            0 => r.pick(&[1023, 1024, 1025]),
+            1 => r.below(300),
+            2..6 => 0,
+            _ => 1 + r.below(9),
+        };
+        if r.one_in(if self.wild { 10 } else { 300 }) {
+            self.queue = r.below(6);
+        }
+        if r.one_in(500) {
+            self.size = r.pick(&[1, 100, 300, 1200, 5000, 65_535]);
+        }
+        let mut now = self.now.max(self.send) / MS * MS + MS * r.pick(&[0, 1, 5, 25, 50, 51, 100]);
+        if r.one_in(if self.wild { 20 } else { 2000 }) {
+            now = now.saturating_sub(MS * r.sized(15));
+        }
+        self.now = now.min(MOST);
+        now = self.now;
+        if self.wild && r.one_in(40) {
+            now = r.pick(&[MOST, MOST + MS, MOST + 1, now + 1, now + 999_999, 1, u64::MAX, 0]);
+        }
+        if r.one_in(4) {
+            self.left = self.left.min(1100 - self.waiting);
+            return (93, [now, 0, 0, 0, 0]);
+        }
+        self.waiting = 0;
+        let probe = if self.wild && r.one_in(20) {
+            let p = r.pick(&[0.0, -0.0, 1e14, 1e10, 40_000.0, f64::INFINITY, f64::NAN, -1.0, 1e-300]);
+            if r.one_in(3) { p.to_bits() + 1 } else { p.to_bits() }
+        } else {
+            f64::to_bits(r.sized(34) as f64)
+        };
+        let short = if self.wild && r.one_in(60) { 1 + r.below(5) } else { 0 };
+        let flag = r.one_in(if self.wild { 8 } else { 200 }) as u64;
+        (92, [flag, probe, now, short, 0])
+    }
+
+    fn opening(&mut self, r: &mut Random) -> (u64, [u64; 5]) {
+        self.wild = r.one_in(3);
+        let old = r.one_in(20);
+        self.send = if old { MOST - 10_000 * 1_000_000_000 } else { r.pick(&[0, 1_000_000_000]) };
+        self.remote_offset = if old { 0 } else { r.pick(&[0, 7_000_000_000, 1_000_000_000_000]) };
+        (self.now, self.remote, self.size) = (self.send, self.send + self.remote_offset, 1200);
+        let mut start = match r.below(4) {
+            0 => r.pick(&[40_000.0, 1e10, 1e6]),
+            _ => 40_000.0 + r.sized(33) as f64 * 1.1,
+        };
+        let mut windows = r.pick(&[(500, 150), (500, 150), (1, 1), (10_000, 10_000), (10_000, 1), (1, 10_000), (150, 500), (7, 13)]);
+        windows = (windows.0 * MS, windows.1 * MS);
+        if r.one_in(8) {
+            start = f64::from_bits(r.pick(&[40_000.0f64, 1e10, f64::NAN, f64::INFINITY, 0.0, -1e6]).to_bits() ^ r.below(2));
+        }
+        if r.one_in(8) {
+            let bad = r.pick(&[0, 1, MS - 1, MS + 1, 10_000 * MS + 1, 10_001 * MS, 10_000 * MS, u64::MAX]);
+            windows = if r.one_in(2) { (bad, windows.1) } else { (windows.0, bad) };
+        }
+        (90, [start.to_bits(), windows.0, windows.1, 0, 0])
+    }
+
+    // A packet over a queue that fills and drains; equal keys, packets out of order, and on wild links any instant and size.
+    fn packet(&mut self, r: &mut Random) -> [u64; 5] {
+        self.seq = self.seq.wrapping_add(1);
+        self.send += match r.below(10) {
+            0 => 0,
+            1 => r.near(5 * MS),
+            2 => r.below(40 * MS),
+            _ => r.below(8 * MS),
+        };
+        let wait = match self.queue {
+            0 | 4 => r.below(MS),
+            1 => 8 * MS + r.below(20 * MS),
+            2 => 0,
+            5 => 40 * MS,
+            _ => r.below(30 * MS),
+        };
+        self.remote = self.remote.max(self.send + self.remote_offset) + wait;
+        self.send = self.send.min(MOST);
+        self.remote = self.remote.min(MOST);
+        let size = match r.below(8) {
+            0 => r.pick(&[1, 65_535]),
+            1 => 1 + r.sized(12),
+            _ => self.size,
+        };
+        let mut packet = [self.seq, size, self.send, self.remote, (self.send + 30 * MS + r.below(60 * MS)).min(MOST)];
+        if r.one_in(if self.wild { 4 } else { 40 }) && !self.recent.is_empty() {
+            let like = r.pick(&self.recent);
+            for i in [0, 2, 3, 4] {
+                if r.one_in(2) {
+                    packet[i] = like[i];
+                }
+            }
+        }
+        if r.one_in(if self.wild { 20 } else { 500 }) {
+            let i = 2 + r.below(3) as usize;
+            packet[i] = packet[i].saturating_sub(r.sized(34));
+        }
+        if self.wild && r.one_in(400) {
+            packet[r.below(2) as usize] = r.pick(&[0, 1, 65_535, (1 << 31) - 1, 1 << 31, (1 << 31) + 1, 1 << 62, (1 << 63) - 1, 1 << 63, u64::MAX]);
+        }
+        if self.wild && r.one_in(400) {
+            packet[2 + r.below(3) as usize] = r.pick(&[MOST - 1, MOST, MOST + 1, 0, u64::MAX]);
+        }
+        if self.recent.len() < 8 || r.one_in(8) {
+            self.recent.push(packet);
+        }
+        packet
     }
 }

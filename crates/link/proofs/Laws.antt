@@ -1,0 +1,90 @@
+-- The turns and ends of the loops over a report's lists.
+use Prim.Native.Nat.{ℕ, _+_, _-_, _<_, _≤_}
+use native.Mathlib.Numerals.{add-one}
+use native.Mathlib.Omega.{arith}
+use mathlib.Core.Path.{_≡_, refl, ap, sym, _∙_}
+use mathlib.Core.Bool.{Bool, true, false, _&&_, not, and-assoc, and-true}
+use mathlib.Core.List.{List, [], _∷_}
+use lib.ListN.{length, take, drop, drop-of-length-le, getD}
+use lib.Seq.{drop-cons}
+use borrow.Author.Tests.{not-true, not-false}
+use Rattle.bandwidth.specs.Bandwidth as B
+use Rattle.bandwidth.specs.declared.DataSize.{DataSize}
+use Rattle.acked_bitrate_estimator.specs.AckedBitrateEstimator as Acked
+use Rattle.acked_bitrate_estimator.specs.declared.AckedBitrateEstimator.{AckedBitrateEstimator}
+use Rattle.receive_order.specs.ReceiveOrder.{count, receiveOrder, orderByReceiveTime, entries, gather}
+use Rattle.receive_order.specs.Laws.{gather-length, ordered-front}
+use Rattle.link_state.specs.State.{mostBytes}
+use Rattle.link_state.specs.declared.Link.{Link}
+use Rattle.link.specs.Link.{Report, acknowledge, dataSize, every, inOrder, processed, processedUnsorted, sumsIn}
+
+-- a call's answer, after a test whether it was no
+module _ {answer question : Bool} (e : answer ≡ question) where
+  pub was-no : not answer ≡ true → question ≡ false
+  was-no n = sym e ∙ not-true answer n
+
+  pub was-yes : not answer ≡ false → question ≡ true
+  was-yes n = sym e ∙ not-false answer n
+
+module _ (test : ℕ → Bool) (xs : List ℕ) (i : ℕ) (yet : Bool) where
+  pub every-turn : i < length xs → (yet && every test (drop i xs)) ≡ (yet && test (getD xs i 0) && every test (drop (i + 1) xs))
+  unfolding every
+  every-turn h = rw (add-one, drop-cons xs i 0) (sym (and-assoc yet _ _))
+
+  pub every-end : length xs ≤ i → (yet && every test (drop i xs)) ≡ yet
+  unfolding every
+  every-end h = rw (drop-of-length-le xs h) (and-true yet)
+
+-- what is left of a report's packets gives what all of them give
+pub record Left (remotes sizes : List ℕ) (first : AckedBitrateEstimator) (a : AckedBitrateEstimator) (yet : Bool) (i : ℕ) : Type 0 where
+  pub acked : acknowledge a (drop i remotes) (drop i sizes) ≡ acknowledge first remotes sizes
+  pub sums : (yet && sumsIn a (drop i remotes) (drop i sizes)) ≡ sumsIn first remotes sizes
+
+module _ (a : AckedBitrateEstimator) (remotes sizes : List ℕ) (i : ℕ) (hr : i < length remotes) (hs : i < length sizes) where
+  abbrev next : AckedBitrateEstimator
+  next = Acked.update a (getD remotes i 0) (dataSize (getD sizes i 0))
+
+  acknowledge-turn : acknowledge a (drop i remotes) (drop i sizes) ≡ acknowledge next (drop (i + 1) remotes) (drop (i + 1) sizes)
+  unfolding acknowledge
+  acknowledge-turn = rw (add-one, drop-cons remotes i 0, drop-cons sizes i 0)
+
+  sums-turn : sumsIn a (drop i remotes) (drop i sizes) ≡ (not (B.less mostBytes (next .sum)) && sumsIn next (drop (i + 1) remotes) (drop (i + 1) sizes))
+  unfolding sumsIn
+  sums-turn = rw (add-one, drop-cons remotes i 0, drop-cons sizes i 0)
+
+no-sizes : (a : AckedBitrateEstimator) (remotes : List ℕ) → (acknowledge a remotes [] ≡ a) × (sumsIn a remotes [] ≡ true)
+unfolding acknowledge sumsIn
+no-sizes a [] = (refl, refl)
+no-sizes a (t ∷ remotes) = (refl, refl)
+
+module _ {remotes sizes : List ℕ} {first a : AckedBitrateEstimator} {yet : Bool} {i : ℕ} (left : Left remotes sizes first a yet i) where
+  pub left-turn : {size : DataSize} {next : AckedBitrateEstimator} {over : Bool} → i < length remotes → i < length sizes → size ≡ dataSize (getD sizes i 0)
+      → next ≡ Acked.update a (getD remotes i 0) size → over ≡ B.less mostBytes (next .sum) → Left remotes sizes first next (yet && not over) (i + 1)
+  left-turn hr hs es en eo = record {
+    acked = rw (en, es) (sym (acknowledge-turn a remotes sizes i hr hs) ∙ left .acked);
+    sums = rw (eo, en, es, and-assoc) (rw (sums-turn a remotes sizes i hr hs) at (left .sums));
+  }
+
+  end : acknowledge a (drop i remotes) (drop i sizes) ≡ a → sumsIn a (drop i remotes) (drop i sizes) ≡ true
+      → (a ≡ acknowledge first remotes sizes) × (yet ≡ sumsIn first remotes sizes)
+  end ea es = (sym ea ∙ left .acked, sym (and-true yet) ∙ (rw es at (left .sums)))
+
+  pub remotes-end : length remotes ≤ i → (a ≡ acknowledge first remotes sizes) × (yet ≡ sumsIn first remotes sizes)
+  unfolding acknowledge sumsIn
+  remotes-end h = end (rw (drop-of-length-le remotes h)) (rw (drop-of-length-le remotes h))
+
+  pub sizes-end : length sizes ≤ i → (a ≡ acknowledge first remotes sizes) × (yet ≡ sumsIn first remotes sizes)
+  sizes-end h = end (rw (drop-of-length-le sizes h) (no-sizes a (drop i remotes) .0)) (rw (drop-of-length-le sizes h) (no-sizes a (drop i remotes) .1))
+
+-- what is gathered of a list by the order of receipt, as an array and as its front
+module _ (remotes sends seqs xs : List ℕ) {order result : List ℕ} {n : ℕ} (en : n ≡ count remotes sends seqs) (eo : order ≡ orderByReceiveTime remotes sends seqs)
+    (er : result ≡ gather xs order n) where
+  pub gathered-room : n ≤ length result
+  gathered-room = omega (arith, ap length er, gather-length xs order n)
+
+  pub gathered : take (n - 0) result ≡ entries xs (receiveOrder remotes sends seqs)
+  gathered = let whole : n - 0 ≡ n = omega arith in rw (whole, er, eo, en) (ordered-front remotes sends seqs xs)
+
+pub processed-in-order : (l : Link) (r : Report) {sizes sends remotes receives : List ℕ} → sizes ≡ inOrder r (r .sizes) → sends ≡ inOrder r (r .sends)
+    → remotes ≡ inOrder r (r .remotes) → receives ≡ inOrder r (r .receives) → processed l sizes sends remotes receives (r .probe) (r .now) ≡ processedUnsorted l r
+processed-in-order l r es en er ev = cc

@@ -1,0 +1,13 @@
+-- Each list by its own test.
+use Rattle.link.specs.Link.{instantsIn}
+use borrow.Author.Needs.{needs}
+use Rattle.link.proofs.instants_in.Statement.{statement}
+use Rattle.link.proofs.instants_in.Tie as tie
+
+returns : tie.Need-returns
+unfolding instantsIn
+returns c = cc
+
+pub instants-in-spec : {M : Type 1} → statement M
+instants-in-spec =
+    tie.close (tie.spec (λ c κs. search needs) (λ c κs. search needs) (λ c κs. search needs) returns)

@@ -1,0 +1,11 @@
+-- The arm of a group is its clause of the definition.
+use borrow.Author.Needs.{needs}
+use Rattle.link_state.proofs.previous_in.Statement.{statement}
+use Rattle.link_state.proofs.previous_in.Tie as tie
+
+returns-2 : tie.Need-returns-2
+returns-2 c = cc
+
+pub previous-in-spec : {M : Type 1} → statement M
+previous-in-spec =
+    tie.close (tie.spec (λ c. search needs) (λ c. search needs) (λ c κs. search needs) (λ c. search needs) returns-2)

@@ -1,0 +1,4 @@
+pub mod State
+pub mod Constants
+pub mod Limits
+pub mod Laws

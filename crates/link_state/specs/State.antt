@@ -1,0 +1,230 @@
+-- Question 1 of document 01: is the lent state in range? A line for each of its clauses, told part by part. Instants and durations are ns.
+use Prim.Native.Nat.{ℕ, _%_, _^_, _+_, _*_}
+use mathlib.Core.Bool.{Bool, true, false, not, _&&_, _||_}
+use mathlib.Core.List.{List, [], _∷_}
+use lib.Dec.{leb, eqb}
+use lib.IntN.{pos}
+use lib.ListN.{take}
+use lib.Ieee as Ieee
+use lib.Ieee.{Float, neg}
+use Rattle.float_order.specs.Binary64.{lit}
+use Rattle.sqrt.specs.Sqrt.{sqrt}
+use Rattle.average.specs.declared.OptionF64.{OptionF64}
+use Rattle.average.specs.declared.OptionF64.the-variants as F64
+use Rattle.average.specs.declared.MovingAverage.{MovingAverage}
+use Rattle.bandwidth.specs.Bandwidth as B
+use Rattle.bandwidth.specs.declared.DataSize.{DataSize}
+use Rattle.bandwidth.specs.declared.OptionBitrate.{OptionBitrate}
+use Rattle.bandwidth.specs.declared.OptionBitrate.the-variants as Rate
+use Rattle.time.specs.declared.TimeDelta.{TimeDelta}
+use Rattle.time.specs.declared.TimeDelta.the-variants as Delta
+use Rattle.time.specs.declared.OptionInstant.{OptionInstant}
+use Rattle.time.specs.declared.OptionInstant.the-variants as Instant
+use Rattle.time.specs.declared.OptionDuration.{OptionDuration}
+use Rattle.time.specs.declared.OptionDuration.the-variants as Duration
+use Rattle.acked_bitrate_estimator.specs.declared.AckedBitrateEstimator.{AckedBitrateEstimator}
+use Rattle.arrival_group.specs.declared.ArrivalGroup.{ArrivalGroup}
+use Rattle.arrival_group.specs.declared.OptionFirst.{OptionFirst}
+use Rattle.arrival_group.specs.declared.OptionFirst.the-variants as First
+use Rattle.arrival_group.specs.declared.OptionGroup.{OptionGroup}
+use Rattle.arrival_group.specs.declared.OptionGroup.the-variants as Previous
+use Rattle.arrival_group.specs.declared.ArrivalGroupAccumulator.{ArrivalGroupAccumulator}
+use Rattle.trendline.specs.declared.History.{History}
+use Rattle.trendline.specs.declared.Delays.{Delays}
+use Rattle.trendline.specs.declared.OptionOveruse.{OptionOveruse}
+use Rattle.trendline.specs.declared.OptionOveruse.the-variants as Over
+use Rattle.trendline.specs.declared.TrendlineEstimator.{TrendlineEstimator}
+use Rattle.rate_control.specs.RateControl.{observedBitRateSmoothingFactor}
+use Rattle.rate_control.specs.declared.RateControl.{RateControl}
+use Rattle.control.specs.Control.{minEstimate, maxEstimate, rttSmoothingFactor}
+use Rattle.control.specs.declared.DelayController.{DelayController}
+use Rattle.link_state.specs.declared.Link.{Link}
+
+-- ---- limits
+-- other instants and durations: 10^18 + 10^9 ns
+abbrev pub mostNs : ℕ
+mostNs = 10 ^ 18 + 10 ^ 9
+
+abbrev pub mostOveruse : ℕ
+mostOveruse = 2 * 10 ^ 18
+
+abbrev pub mostBytes : DataSize
+mostBytes = B.bytes (pos 2147483647)
+
+abbrev pub noBytes : DataSize
+noBytes = B.bytes (pos 0)
+
+-- 6 and 600 ms
+abbrev pub leastThreshold : Float
+leastThreshold = lit 0x4018_0000_0000_0000
+
+abbrev pub mostThreshold : Float
+mostThreshold = lit 0x4082_c000_0000_0000
+
+-- 10^12 ms
+abbrev pub mostTime : Float
+mostTime = lit 0x426d_1a94_a200_0000
+
+-- the greatest floats that are not above 10^30 and 10^31
+abbrev pub most30 : Float
+most30 = lit 0x4629_3e59_39a0_8ce9
+
+abbrev pub most31 : Float
+most31 = lit 0x465f_8def_8808_b024
+
+-- the least float that is not below 0.8; and 10^14
+abbrev pub leastAcked : Float
+leastAcked = lit 0x3fe9_9999_9999_999a
+
+abbrev pub mostRate : Float
+mostRate = lit 0x42d6_bcc4_1e90_0000
+
+-- 10^9 s
+abbrev pub mostRoundTrip : Float
+mostRoundTrip = lit 0x41cd_cd65_0000_0000
+
+-- ---- kinds of fields
+-- from low to high; no NaN is
+abbrev pub within : Float → Float → Float → Bool
+within low high x = Ieee.le low x && Ieee.le x high
+
+abbrev pub present : OptionInstant → Bool
+present Instant.None = false
+present (Instant.Some t) = leb t mostNs
+
+abbrev pub absent : OptionInstant → Bool
+absent Instant.None = true
+absent (Instant.Some t) = false
+
+abbrev pub instantIn : OptionInstant → Bool
+instantIn Instant.None = true
+instantIn (Instant.Some t) = leb t mostNs
+
+abbrev pub durationIn : OptionDuration → Bool
+durationIn Duration.None = true
+durationIn (Duration.Some d) = leb d mostNs
+
+-- windows as in question 3: whole ms from 1 to 10,000
+unfoldable pub windowIn : ℕ → Bool
+windowIn w = eqb (w % 1000000) 0 && leb 1000000 w && leb w 10000000000
+
+-- byte sum as in question 9, and 0 only with an elapsed window of 0
+unfoldable pub sumIn : DataSize → ℕ → Bool
+sumIn sum elapsed = not (B.less sum noBytes) && not (B.less mostBytes sum) && (B.less noBytes sum || eqb elapsed 0)
+
+abbrev pub averageWithin : Float → OptionF64 → Bool
+averageWithin most F64.None = true
+averageWithin most (F64.Some a) = within (lit 0) most a
+
+-- a smoothing factor as the Rust sets it, the average in its limit, the variance from 0 to 10^30, the deviation its root
+unfoldable pub averageIn : MovingAverage → Float → Float → Bool
+averageIn m factor most =
+    Ieee.eq (m .«smoothing_factor») factor
+    && averageWithin most (m .average)
+    && within (lit 0) most30 (m .variance)
+    && Ieee.eq (m .std) (sqrt (m .variance))
+
+-- ---- the acknowledged rate: absent or from 0.8 to 10^14
+abbrev pub ackedRateIn : OptionBitrate → Bool
+ackedRateIn Rate.None = true
+ackedRateIn (Rate.Some r) = within leastAcked mostRate (r .0)
+
+unfoldable pub ackedIn : AckedBitrateEstimator → Bool
+ackedIn a =
+    windowIn (a .«initial_window»)
+    && windowIn (a .window)
+    && ackedRateIn (a .estimate)
+    && within (lit 0) most30 (a .«estimate_var»)
+    && sumIn (a .sum) (a .«current_window»)
+    && leb (a .«current_window») 10000000000
+    && instantIn (a .«last_update»)
+
+-- ---- a group's times all present, or all absent in the current group only
+abbrev pub firstPresent : OptionFirst → Bool
+firstPresent First.None = false
+firstPresent (First.Some send remote) = leb send mostNs && leb remote mostNs
+
+abbrev pub firstAbsent : OptionFirst → Bool
+firstAbsent First.None = true
+firstAbsent (First.Some send remote) = false
+
+unfoldable pub wholeGroup : ArrivalGroup → Bool
+wholeGroup g = firstPresent (g .first) && present (g .«last_local_send_time») && present (g .«last_remote_recv_time»)
+
+unfoldable pub emptyGroup : ArrivalGroup → Bool
+emptyGroup g = firstAbsent (g .first) && absent (g .«last_local_send_time») && absent (g .«last_remote_recv_time»)
+
+abbrev pub previousIn : OptionGroup → Bool
+previousIn Previous.None = true
+previousIn (Previous.Some g) = wholeGroup g
+
+unfoldable pub groupsIn : ArrivalGroupAccumulator → Bool
+groupsIn a =
+    instantIn (a .«send_time_origin»)
+    && previousIn (a .«previous_group»)
+    && (wholeGroup (a .«current_group») || emptyGroup (a .«current_group»))
+
+-- ---- the trendline
+-- a list that rises, or stays, from low to high
+unfoldable pub ascends : Float → List Float → Float → Bool
+ascends low [] high = Ieee.le low high
+ascends low (x ∷ xs) high = Ieee.le low x && ascends x xs high
+
+unfoldable pub allWithin : Float → List Float → Bool
+allWithin most [] = true
+allWithin most (x ∷ xs) = within (neg most) most x && allWithin most xs
+
+-- at most 20 timings in order, times within ±10^12 ms, delays within ±10^31
+unfoldable pub historyIn : History → Bool
+historyIn h = leb (h .len) 20 && ascends (neg mostTime) (take (h .len) (h .times)) mostTime && allWithin most31 (take (h .len) (h .delays))
+
+-- counts within their caps, delays, threshold limits; a previous trend that is no NaN
+unfoldable pub delaysIn : Delays → Bool
+delaysIn d =
+    leb (d .«num_delay_variations») 1000
+    && within (neg most30) most30 (d .«accumulated_delay»)
+    && within (neg most31) most31 (d .«smoothed_delay»)
+    && within leastThreshold mostThreshold (d .«delay_threshold»)
+    && Ieee.eq (d .«previous_trend») (d .«previous_trend»)
+
+-- overuse time within ±2 × 10^18 ns
+abbrev pub overuseTimeIn : TimeDelta → Bool
+overuseTimeIn Delta.NegativeInfinity = false
+overuseTimeIn (Delta.Negative n) = leb n mostOveruse
+overuseTimeIn (Delta.Positive n) = leb n mostOveruse
+overuseTimeIn Delta.PositiveInfinity = false
+
+unfoldable pub overuseIn : OptionOveruse → Bool
+overuseIn Over.None = true
+overuseIn (Over.Some o) = leb (o .count) 2 && overuseTimeIn (o .«time_overusing»)
+
+unfoldable pub trendlineIn : TrendlineEstimator → Bool
+trendlineIn t =
+    instantIn (t .«zero_time»)
+    && historyIn (t .history)
+    && delaysIn (t .delays)
+    && overuseIn (t .overuse)
+    && instantIn (t .«last_threshold_update»)
+
+-- ---- the rate control: rate limits, which the Rust never changes; the average of rates from 0 to 10^14
+unfoldable pub rateControlIn : RateControl → Bool
+rateControlIn c =
+    Ieee.eq (c .«min_bitrate» .0) (minEstimate .0)
+    && Ieee.eq (c .«max_bitrate» .0) (maxEstimate .0)
+    && within (minEstimate .0) (maxEstimate .0) (c .«estimated_bitrate» .0)
+    && averageIn (c .«averaged_observed_bitrate») observedBitRateSmoothingFactor mostRate
+    && instantIn (c .«last_estimate_update»)
+    && durationIn (c .«last_rtt»)
+
+-- ---- the delay controller: round-trip average from 0 to 10^9 s
+unfoldable pub controlIn : DelayController → Bool
+controlIn c =
+    groupsIn (c .«arrival_group_accumulator»)
+    && trendlineIn (c .«trendline_estimator»)
+    && rateControlIn (c .«rate_control»)
+    && averageIn (c .«smoothed_rtt») rttSmoothingFactor mostRoundTrip
+    && leb (c .«next_timeout») mostNs
+    && instantIn (c .«last_twcc_report»)
+
+unfoldable pub inRange : Link → Bool
+inRange l = ackedIn (l .acked) && controlIn (l .control)

@@ -1,0 +1,344 @@
+// The state of a link, and document 01's question 1: whether a lent one is in range. Whatever it holds, the test is defined.
+ghost use mathlib.Core.Path.{_≡_};
+ghost use Prim.Native.Nat.{_≤_};
+ghost use lib.Ieee as Ieee;
+ghost use lib.ListN.{take};
+ghost use Rattle.link_state.specs.State as State;
+use acked_bitrate_estimator::AckedBitrateEstimator;
+use arrival_group::ArrivalGroup;
+use arrival_group::ArrivalGroupAccumulator;
+use arrival_group::OptionFirst;
+use arrival_group::OptionGroup;
+use average::MovingAverage;
+use average::OptionF64;
+use bandwidth::DataSize;
+use bandwidth::OptionBitrate;
+use control::DelayController;
+use rate_control::RateControl;
+use time::OptionDuration;
+use time::OptionInstant;
+use time::TimeDelta;
+use trendline::Delays;
+use trendline::History;
+use trendline::OptionOveruse;
+use trendline::TrendlineEstimator;
+
+pub struct Link {
+    pub acked: AckedBitrateEstimator,
+    pub control: DelayController,
+}
+
+// Instants and durations, in ns.
+const MOST_NS: u64 = 1_000_000_001_000_000_000;
+
+const MOST_OVERUSE: u64 = 2_000_000_000_000_000_000;
+
+const MOST_TIME: f64 = 1e12;
+
+// The greatest f64 that is not above 10^30; 1e30 is above it.
+const MOST_30: f64 = 999999999999999879147136483328.0;
+
+const MOST_31: f64 = 1e31;
+
+const MOST_RATE: f64 = 1e14;
+
+const MOST_ROUND_TRIP: f64 = 1e9;
+
+// ---- kinds of fields
+fn within(low: f64, high: f64, x: f64) -> bool
+    ensures { λ r. ⌜ r ≡ State.within low high x ⌝ }
+{
+    (low <= x) & (x <= high)
+}
+
+fn present(t: OptionInstant) -> bool
+    ensures { λ r. ⌜ r ≡ State.present t ⌝ }
+{
+    match t {
+        OptionInstant::None => false,
+        OptionInstant::Some(ns) => ns <= MOST_NS,
+    }
+}
+
+fn absent(t: OptionInstant) -> bool
+    ensures { λ r. ⌜ r ≡ State.absent t ⌝ }
+{
+    match t {
+        OptionInstant::None => true,
+        OptionInstant::Some(_) => false,
+    }
+}
+
+fn instant_in(t: OptionInstant) -> bool
+    ensures { λ r. ⌜ r ≡ State.instantIn t ⌝ }
+{
+    match t {
+        OptionInstant::None => true,
+        OptionInstant::Some(ns) => ns <= MOST_NS,
+    }
+}
+
+fn duration_in(d: OptionDuration) -> bool
+    ensures { λ r. ⌜ r ≡ State.durationIn d ⌝ }
+{
+    match d {
+        OptionDuration::None => true,
+        OptionDuration::Some(ns) => ns <= MOST_NS,
+    }
+}
+
+// Question 3's test of a window, in ns.
+pub fn window_in(window: u64) -> bool
+    ensures { λ r. ⌜ r ≡ State.windowIn window ⌝ }
+{
+    (window % 1_000_000 == 0) & (1_000_000 <= window) & (window <= 10_000_000_000)
+}
+
+fn sum_in(sum: DataSize, elapsed: u64) -> bool
+    ensures { λ r. ⌜ r ≡ State.sumIn sum elapsed ⌝ }
+{
+    let below = sum.lt(DataSize::ZERO);
+    let above = DataSize(2_147_483_647).lt(sum);
+    let some = DataSize::ZERO.lt(sum);
+    !below & !above & (some | (elapsed == 0))
+}
+
+fn average_within(most: f64, average: OptionF64) -> bool
+    ensures { λ r. ⌜ r ≡ State.averageWithin most average ⌝ }
+{
+    match average {
+        OptionF64::None => true,
+        OptionF64::Some(x) => within(0.0, most, x),
+    }
+}
+
+fn average_in(m: MovingAverage, factor: f64, most: f64) -> bool
+    ensures { λ r. ⌜ r ≡ State.averageIn m factor most ⌝ }
+{
+    let average = m.average;
+    let average_ok = average_within(most, average);
+    let variance_ok = within(0.0, MOST_30, m.variance);
+    let root = sqrt::is_sqrt(m.std, m.variance);
+    (m.smoothing_factor == factor) & average_ok & variance_ok & root
+}
+
+// ---- the acknowledged rate
+fn acked_rate_in(rate: OptionBitrate) -> bool
+    ensures { λ r. ⌜ r ≡ State.ackedRateIn rate ⌝ }
+{
+    match rate {
+        OptionBitrate::None => true,
+        OptionBitrate::Some(x) => within(0.8, MOST_RATE, x.as_f64()),
+    }
+}
+
+fn acked_in(a: AckedBitrateEstimator) -> bool
+    ensures { λ r. ⌜ r ≡ State.ackedIn a ⌝ }
+{
+    let estimate = a.estimate;
+    let sum = a.sum;
+    let last_update = a.last_update;
+    let windows = window_in(a.initial_window) & window_in(a.window);
+    let rate = acked_rate_in(estimate);
+    let variance = within(0.0, MOST_30, a.estimate_var);
+    let bytes = sum_in(sum, a.current_window);
+    let instant = instant_in(last_update);
+    windows & rate & variance & bytes & (a.current_window <= 10_000_000_000) & instant
+}
+
+// ---- groups
+fn first_present(first: OptionFirst) -> bool
+    ensures { λ r. ⌜ r ≡ State.firstPresent first ⌝ }
+{
+    match first {
+        OptionFirst::None => false,
+        OptionFirst::Some(send, remote) => (send <= MOST_NS) & (remote <= MOST_NS),
+    }
+}
+
+fn first_absent(first: OptionFirst) -> bool
+    ensures { λ r. ⌜ r ≡ State.firstAbsent first ⌝ }
+{
+    match first {
+        OptionFirst::None => true,
+        OptionFirst::Some(_, _) => false,
+    }
+}
+
+fn whole_group(g: ArrivalGroup) -> bool
+    ensures { λ r. ⌜ r ≡ State.wholeGroup g ⌝ }
+{
+    let first = g.first;
+    let send = g.last_local_send_time;
+    let remote = g.last_remote_recv_time;
+    first_present(first) & present(send) & present(remote)
+}
+
+fn empty_group(g: ArrivalGroup) -> bool
+    ensures { λ r. ⌜ r ≡ State.emptyGroup g ⌝ }
+{
+    let first = g.first;
+    let send = g.last_local_send_time;
+    let remote = g.last_remote_recv_time;
+    first_absent(first) & absent(send) & absent(remote)
+}
+
+fn previous_in(previous: OptionGroup) -> bool
+    ensures { λ r. ⌜ r ≡ State.previousIn previous ⌝ }
+{
+    match previous {
+        OptionGroup::None => true,
+        OptionGroup::Some(g) => whole_group(g),
+    }
+}
+
+fn groups_in(a: ArrivalGroupAccumulator) -> bool
+    ensures { λ r. ⌜ r ≡ State.groupsIn a ⌝ }
+{
+    let origin = a.send_time_origin;
+    let previous = a.previous_group;
+    let current = a.current_group;
+    instant_in(origin) & previous_in(previous) & (whole_group(current) | empty_group(current))
+}
+
+// ---- the trendline
+fn ascends(times: [f64; 20], n: usize) -> bool
+    requires { ⌜ n ≤ 20 ⌝ }
+    ensures { λ r. ⌜ r ≡ State.ascends (Ieee.neg State.mostTime) (take n times) State.mostTime ⌝ }
+{
+    let mut low = -MOST_TIME;
+    let mut i = 0;
+    while i < n {
+        let x = times[i];
+        if low <= x {
+            low = x;
+            i += 1;
+        } else {
+            return false;
+        }
+    }
+    low <= MOST_TIME
+}
+
+fn all_within(delays: [f64; 20], n: usize) -> bool
+    requires { ⌜ n ≤ 20 ⌝ }
+    ensures { λ r. ⌜ r ≡ State.allWithin State.most31 (take n delays) ⌝ }
+{
+    let mut i = 0;
+    while i < n {
+        if within(-MOST_31, MOST_31, delays[i]) {
+            i += 1;
+        } else {
+            return false;
+        }
+    }
+    true
+}
+
+fn history_in(h: History) -> bool
+    ensures { λ r. ⌜ r ≡ State.historyIn h ⌝ }
+{
+    let times = h.times;
+    let delays = h.delays;
+    let n = h.len;
+    if n > 20 {
+        return false;
+    }
+    if ascends(times, n) {
+        return all_within(delays, n);
+    }
+    false
+}
+
+fn delays_in(d: Delays) -> bool
+    ensures { λ r. ⌜ r ≡ State.delaysIn d ⌝ }
+{
+    let accumulated = within(-MOST_30, MOST_30, d.accumulated_delay);
+    let smoothed = within(-MOST_31, MOST_31, d.smoothed_delay);
+    let threshold = within(6.0, 600.0, d.delay_threshold);
+    (d.num_delay_variations <= 1000)
+        & accumulated
+        & smoothed
+        & threshold
+        & (d.previous_trend == d.previous_trend)
+}
+
+fn overuse_time_in(time: TimeDelta) -> bool
+    ensures { λ r. ⌜ r ≡ State.overuseTimeIn time ⌝ }
+{
+    match time {
+        TimeDelta::NegativeInfinity => false,
+        TimeDelta::Negative(ns) => ns <= MOST_OVERUSE,
+        TimeDelta::Positive(ns) => ns <= MOST_OVERUSE,
+        TimeDelta::PositiveInfinity => false,
+    }
+}
+
+fn overuse_in(overuse: OptionOveruse) -> bool
+    ensures { λ r. ⌜ r ≡ State.overuseIn overuse ⌝ }
+{
+    match overuse {
+        OptionOveruse::None => true,
+        OptionOveruse::Some(o) => {
+            let time = o.time_overusing;
+            (o.count <= 2) & overuse_time_in(time)
+        }
+    }
+}
+
+fn trendline_in(t: TrendlineEstimator) -> bool
+    ensures { λ r. ⌜ r ≡ State.trendlineIn t ⌝ }
+{
+    let zero_time = t.zero_time;
+    let history = t.history;
+    let delays = t.delays;
+    let overuse = t.overuse;
+    let last = t.last_threshold_update;
+    instant_in(zero_time)
+        & history_in(history)
+        & delays_in(delays)
+        & overuse_in(overuse)
+        & instant_in(last)
+}
+
+// ---- the rate control and the delay controller
+fn rate_control_in(c: RateControl) -> bool
+    ensures { λ r. ⌜ r ≡ State.rateControlIn c ⌝ }
+{
+    let low = c.min_bitrate;
+    let high = c.max_bitrate;
+    let estimate = c.estimated_bitrate;
+    let average = c.averaged_observed_bitrate;
+    let last = c.last_estimate_update;
+    let rtt = c.last_rtt;
+    let limits = (low.as_f64() == 40_000.0) & (high.as_f64() == 10_000_000_000.0);
+    let rate = within(40_000.0, 10_000_000_000.0, estimate.as_f64());
+    let observed = average_in(average, 0.95, MOST_RATE);
+    limits & rate & observed & instant_in(last) & duration_in(rtt)
+}
+
+fn control_in(c: DelayController) -> bool
+    ensures { λ r. ⌜ r ≡ State.controlIn c ⌝ }
+{
+    let groups = c.arrival_group_accumulator;
+    let trendline = c.trendline_estimator;
+    let rate_control = c.rate_control;
+    let rtt = c.smoothed_rtt;
+    let last = c.last_twcc_report;
+    groups_in(groups)
+        & trendline_in(trendline)
+        & rate_control_in(rate_control)
+        & average_in(rtt, 0.125, MOST_ROUND_TRIP)
+        & (c.next_timeout <= MOST_NS)
+        & instant_in(last)
+}
+
+impl Link {
+    pub fn in_range(self) -> bool
+        ensures { λ r. ⌜ r ≡ State.inRange self ⌝ }
+    {
+        let acked = self.acked;
+        let control = self.control;
+        acked_in(acked) & control_in(control)
+    }
+}
