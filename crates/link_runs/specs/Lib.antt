@@ -1,1 +1,3 @@
 pub mod Statement
+pub mod Truth
+pub mod Acknowledged
