@@ -1,3 +1,5 @@
 pub mod Statement
 pub mod Truth
 pub mod Acknowledged
+pub mod Overuse
+pub mod Packets
