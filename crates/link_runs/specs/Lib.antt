@@ -3,3 +3,5 @@ pub mod Truth
 pub mod Acknowledged
 pub mod Overuse
 pub mod Packets
+pub mod Answered
+pub mod Good
