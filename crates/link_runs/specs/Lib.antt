@@ -5,3 +5,4 @@ pub mod Overuse
 pub mod Packets
 pub mod Answered
 pub mod Good
+pub mod Demand3
