@@ -37,7 +37,7 @@ use Rattle.link_state.specs.State.{mostRate, within, windowIn}
 use Rattle.link_state.specs.declared.Link.{Link}
 use Rattle.link.specs.Link as L
 use Rattle.link.specs.Link.{Outcome, Question, Report, acceptedWith, acknowledge, allAtMost, firstNo, inOrder, instantsIn, momentIn, mostInstant, new, opened, opening, probeIn, question, reportQuestions, startIn, startedUnless, sumsIn, timedOut, timeoutQuestions, updatedBy, windowsIn}
-use Rattle.link_runs.specs.Statement.{Call, call}
+use Rattle.link_runs.specs.Statement.{Call, call, run}
 use Rattle.link_runs.specs.Statement.Call.{report, timeout}
 use Rattle.link_runs.specs.Truth.{both, either, holds}
 use Rattle.link_runs.specs.Acknowledged as Acknowledged
@@ -180,6 +180,10 @@ call-good l (timeout now) g = go (answered (timeoutQuestions l now) (omega arith
     go : {o : Outcome} → Answered (timeoutQuestions l now) l (timedOut l now) o → Good (o .link)
     go turnedDown = g
     go (taken y) = timed-out-good l now (leb-true now mostInstant (both (leb now mostInstant) (eqb (now % 1000000) 0) (y .1 .0) .0)) g
+
+pub run-good : (l : Link) (ks : List Call) → Good l → Good (run l ks)
+run-good l [] g = g
+run-good l (k ∷ ks) g = run-good (call l k .link) ks (call-good l k g)
 
 -- ---- an opening
 window-valid : (w : ℕ) → windowIn w ≡ true → ValidWindow w

@@ -6,3 +6,4 @@ pub mod Packets
 pub mod Answered
 pub mod Good
 pub mod Demand3
+pub mod InRange

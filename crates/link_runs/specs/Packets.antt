@@ -213,7 +213,7 @@ turned a send remote =
     either (λ d. Turned a (accumulateSince d a origin remote)) (ltb send origin) (λ e. left refl refl)
     (λ e. either (Turned a) (addPacket (a .«current_group») (Group.rounded origin (send - origin)) remote .«need_new_group») (λ f. closed refl refl) (λ f. left refl refl))
 
-abbrev SentIfAny : OptionGroup → Type 0
+abbrev pub SentIfAny : OptionGroup → Type 0
 SentIfAny Previous.None = Unit {0}
 SentIfAny (Previous.Some g) = localSendTime g ≤ mostSend
 
@@ -221,7 +221,7 @@ whole-sent : (origin : ℕ) (p : OptionGroup) → WholeIfAny origin mostInstant 
 whole-sent origin Previous.None w = tt
 whole-sent origin (Previous.Some g) w = rw (w .send) (w .last-send)
 
-sent : (a : ArrivalGroupAccumulator) → Groups.Sound mostInstant mostInstant a → SentIfAny (a .«previous_group») × (localSendTime (a .«current_group») ≤ mostSend)
+pub sent : (a : ArrivalGroupAccumulator) → Groups.Sound mostInstant mostInstant a → SentIfAny (a .«previous_group») × (localSendTime (a .«current_group») ≤ mostSend)
 sent a (empty e) = rw e (tt, omega arith)
 sent a (started {origin} e o v w) = (whole-sent origin (a .«previous_group») v, rw (w .send) (w .last-send))
 
