@@ -1,1 +1,9 @@
 pub mod Statement
+pub mod Truth
+pub mod Acknowledged
+pub mod Overuse
+pub mod Packets
+pub mod Answered
+pub mod Good
+pub mod Demand3
+pub mod InRange
