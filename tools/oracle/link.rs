@@ -92,3 +92,34 @@ impl Link {
         [bits(self.control.last_estimate().unwrap().as_f64()), t[0], since_zero(self.control.poll_timeout()), t[1], acked]
     }
 }
+
+/// The user's failure: a link at 1,000,000 bps, 10 packets a report every 50 ms; those of the first half second have a size of `first` bytes, later ones
+/// 1,200; from 3 to 4 s each packet waits 3 ms longer than the one before, then the line is clean. Fed with no question asked, as the seller's gateway did.
+pub fn jam(first: u64) {
+    let mut link = open(1e6, 500_000_000, 150_000_000).ok().unwrap();
+    let mut queue = 0;
+    for report in 0..1200u64 {
+        let packets: Vec<AckedPacket> = (0..10)
+            .map(|i| {
+                let send = report * 50 + i * 5;
+                queue = if (3000..4000).contains(&send) { queue + 3 } else { 0 };
+                let packet = |t: u64| at((1000 + t) * 1_000_000);
+                AckedPacket {
+                    seq_no: TwccSeq(report * 10 + i),
+                    size: DataSize::bytes(if send < 500 { first } else { 1200 } as i64),
+                    local_send_time: packet(send),
+                    remote_recv_time: packet(send + 20 + queue),
+                    local_recv_time: packet(send + 40 + queue),
+                }
+            })
+            .collect();
+        for p in &packets {
+            link.acked.update(p.remote_recv_time, p.size);
+        }
+        link.control.update(&packets, link.acked.current_estimate(), None, at((1100 + report * 50) * 1_000_000));
+        if report % 20 == 19 {
+            let acked = link.acked.current_estimate().map_or(f64::INFINITY, |e| e.as_f64());
+            println!("{} s: estimate {:.0}, acknowledged rate {acked:.0}", report / 20 + 1, link.control.last_estimate().unwrap().as_f64());
+        }
+    }
+}

@@ -82,6 +82,7 @@ fn main() {
     match words.get(1).map(String::as_str) {
         Some("make") if words.len() == 5 => make::make(&words[2], words[3].parse().unwrap(), words[4].parse().unwrap()),
         Some("distance") if words.len() == 4 => distance::distance(&words[2], &words[3]),
+        Some("jam") if words.len() == 3 => bwe::link::jam(words[2].parse().unwrap()),
         Some("entries") if words.len() == 2 => distance::entries(),
         _ => {
             eprintln!("usage: oracle make MODULE SEED COUNT, oracle distance A B, or oracle entries");
