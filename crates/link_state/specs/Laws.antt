@@ -193,7 +193,7 @@ right true b h = h
 right false b h = absurd (is-true false h)
 
 within-in : {low high x : Float} → within low high x ≡ true → In low high x
-within-in {low} {high} {x} h = record { low = is-true (le low x) (search (left, right)); high = is-true (le x high) (search (left, right)) }
+within-in {low} {high} {x} h = record { low = is-true (le low x) (search left); high = is-true (le x high) (search (left, right)) }
 
 from-zero : {most x : Float} → within (lit 0) most x ≡ true → In zero₊ most x
 unfolding ofBits
@@ -259,7 +259,7 @@ is-present (Instant.Some t) h = record { at = t; is = refl; few = leb-true t mos
 
 first-present : (f : OptionFirst) → firstPresent f ≡ true → FirstPresent f
 first-present First.None h = absurd (is-true false h)
-first-present (First.Some s r) h = record { send = s; remote = r; is = refl; few-send = search (left, right, leb-true); few-remote = search (left, right, leb-true) }
+first-present (First.Some s r) h = record { send = s; remote = r; is = refl; few-send = search (left, leb-true); few-remote = search (left, right, leb-true) }
 
 is-absent : (t : OptionInstant) → absent t ≡ true → t ≡ Instant.None
 is-absent Instant.None h = refl
@@ -310,15 +310,15 @@ module _ (P : Float → Type 0) (n : ℕ) (xs : List Float) (h : n ≤ length xs
 ends : (low high : Float) (xs : List Float) → ascends low xs high ≡ true → T (le low high)
 unfolding ascends
 ends low high [] h = is-true (le low high) h
-ends low high (x ∷ xs) h = le-trans low x high (is-true (le low x) (search (left, right))) (ends x high xs (search (left, right)))
+ends low high (x ∷ xs) h = le-trans low x high (is-true (le low x) (search left)) (ends x high xs (search (left, right)))
 
 rising-in : (low high : Float) (xs : List Float) → ascends low xs high ≡ true → (i : ℕ) → i < length xs → In low high (getD xs i nan)
 unfolding ascends
 rising-in low high [] h i l = absurd (omega arith)
-rising-in low high (x ∷ xs) h zero l = record { low = is-true (le low x) (search (left, right)); high = ends x high xs (search (left, right)) }
+rising-in low high (x ∷ xs) h zero l = record { low = is-true (le low x) (search left); high = ends x high xs (search (left, right)) }
 rising-in low high (x ∷ xs) h (suc i) l =
     let r = rising-in x high xs (search (left, right)) i (omega arith) in
-    record { low = le-trans low x (getD xs i nan) (is-true (le low x) (search (left, right))) (r .low); high = r .high }
+    record { low = le-trans low x (getD xs i nan) (is-true (le low x) (search left)) (r .low); high = r .high }
 
 rising-order : (low high : Float) (xs : List Float) → ascends low xs high ≡ true → (i : ℕ) → suc i < length xs → T (le (getD xs i nan) (getD xs (suc i) nan))
 unfolding ascends
@@ -329,7 +329,7 @@ rising-order low high (x ∷ xs) h (suc i) l = rising-order x high xs (search (l
 all-in : (most : Float) (xs : List Float) → allWithin most xs ≡ true → (i : ℕ) → i < length xs → Within most (getD xs i nan)
 unfolding allWithin
 all-in most [] h i l = absurd (omega arith)
-all-in most (x ∷ xs) h zero l = within-in (search (left, right))
+all-in most (x ∷ xs) h zero l = within-in (search left)
 all-in most (x ∷ xs) h (suc i) l = all-in most xs (search (left, right)) i (omega arith)
 
 history : (h : History) → Sized h → historyIn h ≡ true → SoundHistory (10 ^ 9) h
@@ -372,7 +372,7 @@ overuse-time Delta.PositiveInfinity h = absurd (is-true false h)
 overuse : (o : OptionOveruse) → overuseIn o ≡ true → OveruseInRange o
 unfolding overuseIn
 overuse Over.None h = tt
-overuse (Over.Some o) h = (search (left, right, leb-true), search (left, right, overuse-time))
+overuse (Over.Some o) h = (search (left, leb-true), search (left, right, overuse-time))
 
 trendline : (t : TrendlineEstimator) → Sized (t .history) → trendlineIn t ≡ true → TrendlineInRange t
 unfolding trendlineIn
