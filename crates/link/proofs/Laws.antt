@@ -1,4 +1,4 @@
--- The turns and ends of the loops over a report's lists.
+-- Tests of a question's answer, the loops over a report's lists, and lists gathered in the order of receipt.
 use Prim.Native.Nat.{ℕ, _+_, _-_, _<_, _≤_}
 use native.Mathlib.Numerals.{add-one}
 use native.Mathlib.Omega.{arith}
@@ -16,7 +16,8 @@ use Rattle.receive_order.specs.ReceiveOrder.{count, receiveOrder, orderByReceiv
 use Rattle.receive_order.specs.Laws.{gather-length, ordered-front}
 use Rattle.link_state.specs.State.{mostBytes}
 use Rattle.link_state.specs.declared.Link.{Link}
-use Rattle.link.specs.Link.{Report, acknowledge, dataSize, every, inOrder, processed, processedUnsorted, sumsIn}
+use Rattle.link.specs.Link.{Report, acknowledge, dataSize, every, inOrder, listsIn, processed, processedUnsorted, sumsIn}
+use Rattle.link.specs.Laws.{lists-count}
 
 -- a call's answer, after a test whether it was no
 module _ {answer question : Bool} (e : answer ≡ question) where
@@ -36,7 +37,7 @@ module _ (test : ℕ → Bool) (xs : List ℕ) (i : ℕ) (yet : Bool) where
   every-end h = rw (drop-of-length-le xs h) (and-true yet)
 
 -- what is left of a report's packets gives what all of them give
-pub record Left (remotes sizes : List ℕ) (first : AckedBitrateEstimator) (a : AckedBitrateEstimator) (yet : Bool) (i : ℕ) : Type 0 where
+pub record Left (remotes sizes : List ℕ) (first a : AckedBitrateEstimator) (yet : Bool) (i : ℕ) : Type 0 where
   pub acked : acknowledge a (drop i remotes) (drop i sizes) ≡ acknowledge first remotes sizes
   pub sums : (yet && sumsIn a (drop i remotes) (drop i sizes)) ≡ sumsIn first remotes sizes
 
@@ -76,14 +77,17 @@ module _ {remotes sizes : List ℕ} {first a : AckedBitrateEstimator} {yet : Boo
   pub sizes-end : length sizes ≤ i → (a ≡ acknowledge first remotes sizes) × (yet ≡ sumsIn first remotes sizes)
   sizes-end h = end (rw (drop-of-length-le sizes h) (no-sizes a (drop i remotes) .0)) (rw (drop-of-length-le sizes h) (no-sizes a (drop i remotes) .1))
 
--- what is gathered of a list by the order of receipt, as an array and as its front
-module _ (remotes sends seqs xs : List ℕ) {order result : List ℕ} {n : ℕ} (en : n ≡ count remotes sends seqs) (eo : order ≡ orderByReceiveTime remotes sends seqs)
-    (er : result ≡ gather xs order n) where
-  pub gathered-room : n ≤ length result
-  gathered-room = omega (arith, ap length er, gather-length xs order n)
+-- what is gathered of a list by the order of receipt: room for all packets, and its front
+module _ (sequences sizes sends remotes receives : List ℕ) (y4 : listsIn sequences sizes sends remotes receives ≡ true)
+    (xs order : List ℕ) {result : List ℕ} (er : result ≡ gather xs order (length remotes)) where
+  pub gathered-room : length remotes ≤ length result
+  gathered-room = omega (arith, lists-count sequences sizes sends remotes receives y4 .2, ap length er, gather-length xs order (length remotes))
 
-  pub gathered : take (n - 0) result ≡ entries xs (receiveOrder remotes sends seqs)
-  gathered = let whole : n - 0 ≡ n = omega arith in rw (whole, er, eo, en) (ordered-front remotes sends seqs xs)
+  pub gathered : order ≡ orderByReceiveTime remotes sends sequences → take (length remotes - 0) result ≡ entries xs (receiveOrder remotes sends sequences)
+  gathered eo = front (lists-count sequences sizes sends remotes receives y4 .2) er
+    where
+      front : {n : ℕ} → n ≡ count remotes sends sequences → result ≡ gather xs order n → take (n - 0) result ≡ entries xs (receiveOrder remotes sends sequences)
+      front {n} en eg = let whole : n - 0 ≡ n = omega arith in rw (whole, eg, eo, en) (ordered-front remotes sends sequences xs)
 
 pub processed-in-order : (l : Link) (r : Report) {sizes sends remotes receives : List ℕ} → sizes ≡ inOrder r (r .sizes) → sends ≡ inOrder r (r .sends)
     → remotes ≡ inOrder r (r .remotes) → receives ≡ inOrder r (r .receives) → processed l sizes sends remotes receives (r .probe) (r .now) ≡ processedUnsorted l r

@@ -1,7 +1,7 @@
 -- Laws of a link's calls: what they give where a question is the first that is answered with no, and where none is.
 use Prim.Native.Nat.{ℕ, _≤_}
 use native.Mathlib.Omega.{arith}
-use mathlib.Core.Path.{_≡_, refl, ap, sym, _∙_}
+use mathlib.Core.Path.{_≡_, refl, _∙_}
 use mathlib.Core.Bool.{Bool, true, false, _&&_}
 use mathlib.Core.List.{List}
 use lib.Dec.{eqb, leb}
@@ -137,10 +137,6 @@ module _ (l : Link) (r : Report) where
               pub report-processed : report l r ≡ processedUnsorted l r
               unfolding report processed reportQuestions firstNo
               report-processed = rw (y1, y4, y5, y6, y7, y8)
-
-              pub report-sorted : isSorted (r .remotes) (r .sends) (r .sequences) ≡ true
-                  → report l r ≡ processed l (r .sizes) (r .sends) (r .remotes) (r .receives) (r .probe) (r .now)
-              report-sorted s = report-processed ∙ processed-sorted l r y4 s
 
               pub report-9 : sumsIn (l .acked) (inOrder r (r .remotes)) (inOrder r (r .sizes)) ≡ false → report l r ≡ refusedBy 9 l
               report-9 n9 = report-processed ∙ processed-9 l _ _ _ _ _ _ n9

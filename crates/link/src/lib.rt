@@ -242,7 +242,8 @@ fn process(
         probe,
         moment,
     );
-    accepted(Link { acked, control })
+    let updated = Link { acked, control };
+    accepted(updated)
 }
 
 // The same of packets in any order: they are put in order first, unless they are.
@@ -358,5 +359,6 @@ pub fn timeout(link: Link, now: u64) -> Called
     let acked = link.acked;
     let control = link.control;
     let control = control.handle_timeout(acked.current_estimate(), now);
-    accepted(Link { acked, control })
+    let timed_out = Link { acked, control };
+    accepted(timed_out)
 }

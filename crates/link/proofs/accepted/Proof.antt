@@ -1,6 +1,6 @@
 -- What the delay controller shows.
-use Rattle.link.specs.Link.{acceptedWith}
 use borrow.Author.Needs.{needs}
+use Rattle.link.specs.Link.{acceptedWith}
 use Rattle.link.proofs.accepted.Statement.{statement}
 use Rattle.link.proofs.accepted.Tie as tie
 

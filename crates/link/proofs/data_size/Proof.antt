@@ -4,8 +4,8 @@ use native.Mathlib.Omega.{arith}
 use mathlib.Core.Path.{ap}
 use lib.IntN.{pos}
 use borrow.Author.Tests.{lt-ltb}
-use Rattle.bandwidth.specs.Bandwidth as B
 use borrow.Author.Needs.{needs}
+use Rattle.bandwidth.specs.Bandwidth as B
 use Rattle.link.proofs.data_size.Statement.{statement}
 use Rattle.link.proofs.data_size.Tie as tie
 

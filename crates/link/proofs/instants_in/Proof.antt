@@ -1,6 +1,6 @@
 -- Each list by its own test.
-use Rattle.link.specs.Link.{instantsIn}
 use borrow.Author.Needs.{needs}
+use Rattle.link.specs.Link.{instantsIn}
 use Rattle.link.proofs.instants_in.Statement.{statement}
 use Rattle.link.proofs.instants_in.Tie as tie
 

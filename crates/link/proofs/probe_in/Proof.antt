@@ -1,6 +1,6 @@
 -- No probe, or its test.
-use Rattle.link.specs.Link.{probeIn}
 use borrow.Author.Needs.{needs}
+use Rattle.link.specs.Link.{probeIn}
 use Rattle.link.proofs.probe_in.Statement.{statement}
 use Rattle.link.proofs.probe_in.Tie as tie
 

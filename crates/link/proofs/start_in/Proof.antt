@@ -1,6 +1,6 @@
 -- Both limits of the definition.
-use Rattle.link.specs.Link.{startIn}
 use borrow.Author.Needs.{needs}
+use Rattle.link.specs.Link.{startIn}
 use Rattle.link.proofs.start_in.Statement.{statement}
 use Rattle.link.proofs.start_in.Tie as tie
 

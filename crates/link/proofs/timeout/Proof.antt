@@ -1,23 +1,40 @@
 -- The three answers of the definition.
-use mathlib.Core.Path.{sym}
-use Rattle.link.specs.Link.{timedOut}
+use Prim.Native.Nat.{ℕ}
+use mathlib.Core.Path.{_≡_, sym, _∙_}
+use mathlib.Core.Bool.{true}
+use borrow.Author.Needs.{needs}
+use Rattle.bandwidth.specs.declared.OptionBitrate.{OptionBitrate}
+use Rattle.control.specs.Control as Control
+use Rattle.control.specs.declared.DelayController.{DelayController}
+use Rattle.link_state.specs.State.{inRange}
+use Rattle.link_state.specs.declared.Link.{Link}
+use Rattle.link.specs.Link.{acceptedWith, momentIn, timedOut, timeout}
 use Rattle.link.specs.Laws.{timeout-1, timeout-7, timeout-yes}
 use Rattle.link.proofs.Laws.{was-no, was-yes}
-use borrow.Author.Needs.{needs}
 use Rattle.link.proofs.timeout.Statement.{statement}
 use Rattle.link.proofs.timeout.Tie as tie
 
+module _ (l : Link) (now : ℕ) {rate : OptionBitrate} {control : DelayController} where
+  updates : rate ≡ l .acked .estimate → control ≡ Control.handleTimeout (l .control) rate now → inRange l ≡ true → momentIn now ≡ true
+      → acceptedWith (record { acked = l .acked; control = control }) ≡ timeout l now
+  unfolding timedOut
+  updates er ec y1 y7 = rw (ec, er) (sym (timeout-yes l now y1 y7))
+
 returns : tie.Need-returns
-returns c = sym (timeout-1 _ _ (search (needs, was-no)))
+returns c = sym (timeout-1 _ _ (was-no (c .before .in-range .ensures) (c .if1 .taken)))
 
 returns-2 : tie.Need-returns-2
-returns-2 c = sym (timeout-7 _ _ (search (needs, was-yes)) (search (needs, was-no)))
+returns-2 c =
+    let q1 = c .before .before in
+    sym (timeout-7 _ _ (was-yes (q1 .before .in-range .ensures) (q1 .if1 .left)) (was-no (c .before .moment-in .ensures) (c .if2 .taken)))
 
 returns-3 : tie.Need-returns-3
-unfolding timedOut
 returns-3 c =
-    let a = c .before .before .before .before .before .before .before .before .before .args in
-    cc (timeout-yes (a .link) (a .now) (was-yes (c .before .before .before .before .before .before .before .before .in-range .ensures) (c .before .before .before .before .before .before .before .if1 .left)) (was-yes (c .before .before .before .before .before .before .moment-in .ensures) (c .before .before .before .before .before .if2 .left)))
+    let q7 = c .before .before .before .before .before in
+    let q1 = q7 .before .before in
+    c .accepted .ensures
+    ∙ updates _ _ (c .before .before .current-estimate .ensures) (c .before .handle-timeout .ensures) (was-yes (q1 .before .in-range .ensures) (q1 .if1 .left))
+    (was-yes (q7 .before .moment-in .ensures) (q7 .if2 .left))
 
 pub timeout-spec : {M : Type 1} → statement M
 timeout-spec =

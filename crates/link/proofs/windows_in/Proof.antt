@@ -1,6 +1,6 @@
 -- Each window by its own test.
-use Rattle.link.specs.Link.{windowsIn}
 use borrow.Author.Needs.{needs}
+use Rattle.link.specs.Link.{windowsIn}
 use Rattle.link.proofs.windows_in.Statement.{statement}
 use Rattle.link.proofs.windows_in.Tie as tie
 
