@@ -13,7 +13,7 @@ use Rattle.acked_bitrate_estimator.specs.declared.AckedBitrateEstimator.{AckedB
 use Rattle.receive_order.specs.Lists.{All}
 use Rattle.link_state.specs.State.{mostBytes}
 use Rattle.link.specs.Link.{acknowledge, dataSize, mostInstant, sumsIn}
-use Rattle.link_runs.specs.Truth.{both, holds}
+use Rattle.link_runs.specs.Tests.{both, holds}
 
 pub record GoodAcked (a : AckedBitrateEstimator) : Type 0 where
   pub reached : Reached a

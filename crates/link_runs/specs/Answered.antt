@@ -1,5 +1,5 @@
 -- What an accepted call's questions tell: each was answered with yes.
-use Prim.Native.Nat.{ℕ, zero, suc, _≤_, _<_, _-_, _^_}
+use Prim.Native.Nat.{ℕ, zero, suc, _≤_, _<_}
 use native.Mathlib.Omega.{arith}
 use mathlib.Core.Path.{_≡_, refl}
 use mathlib.Core.Bool.{Bool, true, false, _&&_, cond}
@@ -8,12 +8,12 @@ use borrow.Author.Tests.{leb-true, eqb-true}
 use lib.Dec.{leb, eqb}
 use lib.ListN.{length}
 use Rattle.control.specs.Laws.{RoundTrips}
-use Rattle.receive_order.specs.ReceiveOrder.{count}
 use Rattle.receive_order.specs.Lists.{All}
 use Rattle.receive_order.specs.Laws.{ordered-all}
 use Rattle.link_state.specs.declared.Link.{Link}
-use Rattle.link.specs.Link.{Outcome, Question, Report, acceptedWith, allAtLeast, allAtMost, firstNo, inOrder, listsIn, outcomeUnless, refused}
-use Rattle.link_runs.specs.Truth.{both}
+use Rattle.link.specs.Link as L
+use Rattle.link.specs.Link.{Outcome, Question, Report, acceptedWith, allAtLeast, allAtMost, firstNo, inOrder, listsIn, outcomeUnless, refused, reportQuestions, timeoutQuestions}
+use Rattle.link_runs.specs.Tests.{both}
 
 abbrev pub AllYes : List Question → Type 0
 AllYes [] = Unit {0}
@@ -37,13 +37,21 @@ pub data Answered (qs : List Question) (before after : Link) : Outcome → Type 
   turnedDown : {n : ℕ} → Answered qs before after (record { reply = refused n; link = before })
   taken : AllYes qs → Answered qs before after (acceptedWith after)
 
-pub answered : (qs : List Question) → Numbered qs → (before after : Link) → Answered qs before after (outcomeUnless (firstNo qs) before after)
+answered : (qs : List Question) → Numbered qs → (before after : Link) → Answered qs before after (outcomeUnless (firstNo qs) before after)
 unfolding outcomeUnless
 answered qs h before after = go (firstNo qs) refl
   where
     go : (n : ℕ) → firstNo qs ≡ n → Answered qs before after (outcomeUnless n before after)
     go zero e = taken (all-yes qs h e)
     go (suc n) e = turnedDown
+
+pub report-answered : (l : Link) (r : Report) → Answered (reportQuestions l r) l (L.updated l r) (L.report l r)
+unfolding L.report reportQuestions
+report-answered l r = answered (reportQuestions l r) (omega arith) l (L.updated l r)
+
+pub timeout-answered : (l : Link) (now : ℕ) → Answered (timeoutQuestions l now) l (L.timedOut l now) (L.timeout l now)
+unfolding L.timeout timeoutQuestions
+timeout-answered l now = answered (timeoutQuestions l now) (omega arith) l (L.timedOut l now)
 
 -- ---- lists
 pub at-most : (n : ℕ) (xs : List ℕ) → allAtMost n xs ≡ true → All (λ x. x ≤ n) xs

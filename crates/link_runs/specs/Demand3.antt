@@ -1,36 +1,33 @@
 -- The proof of demand 3. A link is a machine that holds a rate control, and what a call does to that is what the statement says is handed on.
-use Prim.Native.Nat.{ℕ, suc, _<_}
-use native.Mathlib.Omega.{arith}
-use mathlib.Core.Path.{_≡_, refl, ap, _∙_}
+use Prim.Native.Nat.{ℕ, suc}
+use mathlib.Core.Path.{_≡_, refl, ap}
 use mathlib.Core.Bool.{Bool, true, false, cond}
 use mathlib.Core.List.{List, [], _∷_, _++_}
 use lib.Ieee.{Float}
-use Rattle.bandwidth.specs.declared.Bitrate.{Bitrate}
 use Rattle.bandwidth.specs.declared.OptionBitrate.{OptionBitrate}
 use Rattle.bandwidth.specs.declared.OptionBitrate.the-variants as Rate
 use Rattle.bandwidth.specs.declared.BandwidthUsage.{BandwidthUsage}
 use Rattle.time.specs.declared.OptionDuration.{OptionDuration}
 use Rattle.time.specs.Time.{saturatingAdd}
-use Rattle.rate_control.specs.declared.RateControl as R
+use Rattle.trendline.specs.Cases.{cases}
 use Rattle.recovery.specs.Recovery as Recovery
-use Rattle.recovery.specs.Recovery.{Change, Each, Finite, Update, after}
+use Rattle.recovery.specs.Recovery.{Change, Each, Finite, after}
 use Rattle.recovery.specs.Recovery.Change.{update, probe, nothing}
 use Rattle.recovery.specs.Runs as Runs
 use Rattle.recovery.specs.Runs.{Machine}
 use Rattle.acked_bitrate_estimator.specs.Laws.{ValidEstimate}
 use Rattle.control.specs.Control as Control
-use Rattle.control.specs.Control.{addAll, begin, wait, getSmoothedRtt, handleTimeout, rateAfter, rttOf, trendlineHypothesisValid, updateEstimate, withPackets, withRate}
+use Rattle.control.specs.Control.{addAll, begin, getSmoothedRtt, handleTimeout, rateAfter, trendlineHypothesisValid, updateEstimate, wait, withPackets, withRate}
 use Rattle.control.specs.declared.DelayController.{DelayController}
 use Rattle.link_state.specs.declared.Link.{Link}
 use Rattle.link.specs.Link as L
 use Rattle.link.specs.Link.{Outcome, Reply, Report, acceptedWith, accepted, hypothesis, inOrder, refused, reportQuestions, timedOut, timeoutQuestions, updatedBy}
-use Rattle.link_runs.specs.Statement.{Call, Demand3, Handed, Steady, Unjammed, call, handed, handedAll, handedOn, run, threshold, unlessRefused, updates}
+use Rattle.link_runs.specs.Statement.{Call, Demand3, Handed, Steady, call, handed, handedAll, handedOn, run, threshold, unlessRefused, updates}
 use Rattle.link_runs.specs.Statement.Call.{report, timeout}
 use Rattle.link_runs.specs.Statement as Statement
-use Rattle.link_runs.specs.Truth.{either}
-use Rattle.link_runs.specs.Answered.{Answered, answered}
+use Rattle.link_runs.specs.Answered.{Answered, report-answered, timeout-answered}
 use Rattle.link_runs.specs.Answered.Answered.{turnedDown, taken}
-use Rattle.link_runs.specs.Good.{FiniteIfAny, Good, call-good, opening-good, probe-finite, rate-finite}
+use Rattle.link_runs.specs.Good.{FiniteIfAny, Good, call-good, good-report, opening-good, rate-finite}
 
 -- ---- what a call does to the rate control: what it hands on, with the round trip and the moment
 abbrev changeOf : OptionBitrate → OptionBitrate → BandwidthUsage → OptionDuration → ℕ → Change
@@ -76,13 +73,13 @@ timeout-rate c acked now = go (trendlineHypothesisValid c now)
     go false = refl
 
 control-after : (l : Link) (k : Call) → call l k .link .control .«rate_control» ≡ after (l .control .«rate_control») (change l k)
-unfolding L.report L.timeout acceptedWith updatedBy timedOut reportQuestions timeoutQuestions Control.update updateEstimate withRate withPackets getSmoothedRtt
-control-after l (report r) = go (answered (reportQuestions l r) (omega arith) l (L.updated l r))
+unfolding acceptedWith updatedBy timedOut Control.update updateEstimate withRate withPackets getSmoothedRtt
+control-after l (report r) = go (report-answered l r)
   where
     go : {o : Outcome} → Answered (reportQuestions l r) l (L.updated l r) o → o .link .control .«rate_control» ≡ after (l .control .«rate_control») (reported o r)
     go turnedDown = refl
     go (taken y) = rate-after (r .probe) _ (withPackets (l .control) (addAll (begin (l .control)) (inOrder r (r .sends)) (inOrder r (r .remotes)) (inOrder r (r .receives))) (r .now)) (r .now)
-control-after l (timeout now) = go (answered (timeoutQuestions l now) (omega arith) l (timedOut l now))
+control-after l (timeout now) = go (timeout-answered l now)
   where
     go : {o : Outcome} → Answered (timeoutQuestions l now) l (timedOut l now) o → o .link .control .«rate_control» ≡ after (l .control .«rate_control») (timed o l now)
     go turnedDown = refl
@@ -99,16 +96,15 @@ unless-finite (refused n) x f = tt
 unless-finite (accepted e u t) x f = f
 
 report-finite : (l : Link) (r : Report) {o : Outcome} → Answered (reportQuestions l r) l (L.updated l r) o → Good (o .link) → Finite (reported o r)
-unfolding reportQuestions acceptedWith
+unfolding acceptedWith
 report-finite l r turnedDown g = tt
-report-finite l r (taken y) g = change-finite (r .probe) (L.updated l r .acked .estimate) _ _ (r .now) (probe-finite (r .probe) (y .1 .1 .1 .1 .1 .0)) (g .acked .reached .estimate)
+report-finite l r (taken y) g = change-finite (r .probe) (L.updated l r .acked .estimate) _ _ (r .now) (good-report l r y .probe-in) (g .acked .reached .estimate)
 
 good-finite : (l : Link) (k : Call) → Good l → Finite (change l k)
-unfolding L.report reportQuestions
-good-finite l (report r) g = report-finite l r (answered (reportQuestions l r) (omega arith) l (L.updated l r)) (call-good l (report r) g)
+good-finite l (report r) g = report-finite l r (report-answered l r) (call-good l (report r) g)
 good-finite l (timeout now) g =
     unless-finite (L.timeout l now .reply) _
-    (either Finite (trendlineHypothesisValid (l .control) now)
+    (cases Finite (trendlineHypothesisValid (l .control) now)
     (λ e. change-finite Rate.None (l .acked .estimate) (hypothesis l) (getSmoothedRtt (l .control)) now tt (g .acked .reached .estimate)) (λ e. tt))
 
 keeps : Runs.Keeps machine Good

@@ -2,7 +2,7 @@
 use Prim.Native.Nat.{ℕ, zero, suc, _+_, _^_, _≤_, _%_}
 use native.Mathlib.Omega.{arith}
 use mathlib.Core.Path.{_≡_, refl}
-use mathlib.Core.Bool.{Bool, true, false, _&&_, cond}
+use mathlib.Core.Bool.{true, _&&_}
 use mathlib.Core.List.{List, [], _∷_}
 use borrow.Author.Tests.{leb-true, eqb-true}
 use lib.Dec.{T, leb, eqb}
@@ -24,27 +24,28 @@ use Rattle.bandwidth.specs.declared.OptionBitrate.the-variants as Rate
 use Rattle.time.specs.Time.{saturatingAdd}
 use Rattle.acked_bitrate_estimator.specs.Laws.{ValidEstimate, ValidRate, ValidWindow}
 use Rattle.acked_bitrate_estimator.specs.declared.AckedBitrateEstimator.{AckedBitrateEstimator}
+use Rattle.trendline.specs.Cases.{cases}
 use Rattle.rate_control.specs.RateControl as RateControl
 use Rattle.rate_control.specs.Laws as Rates
 use Rattle.rate_control.specs.Laws.{InstantAtMost, DurationAtMost}
 use Rattle.rate_control.specs.declared.RateControl as R
 use Rattle.control.specs.Control as Control
-use Rattle.control.specs.Control.{addAll, begin, maxEstimate, minEstimate, rttSmoothingFactor, getSmoothedRtt, handleTimeout, rateAfter, rttOf, trendlineHypothesisValid, updateEstimate, updateInterval, withPackets, withRate}
+use Rattle.control.specs.Control.{addAll, begin, getSmoothedRtt, handleTimeout, maxEstimate, minEstimate, rateAfter, rttOf, rttSmoothingFactor, trendlineHypothesisValid, updateEstimate, updateInterval, withPackets, withRate}
 use Rattle.control.specs.Laws.{KeptRtt, mostRtt, timeout-none, timeout-report, timeout-timeout, update-kept}
 use Rattle.control.specs.declared.DelayController.{DelayController}
 use Rattle.receive_order.specs.Lists.{All}
-use Rattle.link_state.specs.State.{mostRate, within, windowIn}
+use Rattle.link_state.specs.State.{mostRate, windowIn}
 use Rattle.link_state.specs.declared.Link.{Link}
 use Rattle.link.specs.Link as L
 use Rattle.link.specs.Link.{Outcome, Question, Report, acceptedWith, acknowledge, allAtMost, firstNo, inOrder, instantsIn, momentIn, mostInstant, new, opened, opening, probeIn, question, reportQuestions, startIn, startedUnless, sumsIn, timedOut, timeoutQuestions, updatedBy, windowsIn}
 use Rattle.link_runs.specs.Statement.{Call, call, run}
 use Rattle.link_runs.specs.Statement.Call.{report, timeout}
-use Rattle.link_runs.specs.Truth.{both, either, holds}
+use Rattle.link_runs.specs.Tests.{both, holds}
 use Rattle.link_runs.specs.Acknowledged as Acknowledged
 use Rattle.link_runs.specs.Acknowledged.{GoodAcked, acknowledge-good}
 use Rattle.link_runs.specs.Packets as Packets
 use Rattle.link_runs.specs.Packets.{GoodPackets, packets-good}
-use Rattle.link_runs.specs.Answered.{AllYes, Answered, all-yes, answered, at-least, at-most, in-order, lengths, round-trips}
+use Rattle.link_runs.specs.Answered.{AllYes, Answered, all-yes, at-least, at-most, in-order, lengths, report-answered, round-trips, timeout-answered}
 use Rattle.link_runs.specs.Answered.Answered.{turnedDown, taken}
 
 -- the limits are the estimate's, and its statistics are in their ranges
@@ -71,7 +72,7 @@ abbrev pub FiniteIfAny : OptionBitrate → Type 0
 FiniteIfAny Rate.None = Unit {0}
 FiniteIfAny (Rate.Some p) = T (finite (p .0))
 
-pub probe-finite : (p : OptionBitrate) → probeIn p ≡ true → FiniteIfAny p
+probe-finite : (p : OptionBitrate) → probeIn p ≡ true → FiniteIfAny p
 unfolding probeIn
 probe-finite Rate.None e = tt
 probe-finite (Rate.Some p) e =
@@ -127,7 +128,7 @@ updated-good l sizes sends remotes receives probe now r g =
       report = r .now-in;
     }
 
-good-report : (l : Link) (r : Report) → AllYes (reportQuestions l r)
+pub good-report : (l : Link) (r : Report) → AllYes (reportQuestions l r)
     → GoodReport (l .acked) (inOrder r (r .sizes)) (inOrder r (r .sends)) (inOrder r (r .remotes)) (inOrder r (r .receives)) (r .probe) (r .now)
 unfolding reportQuestions instantsIn momentIn
 good-report l r y =
@@ -150,7 +151,7 @@ timeout-rate-good : (c : DelayController) (observed : OptionBitrate) (now : ℕ)
     → GoodRate (handleTimeout c observed now .«rate_control»)
 unfolding handleTimeout updateEstimate withRate
 timeout-rate-good c observed now v n k g =
-    either (λ (d : DelayController). GoodRate (d .«rate_control»)) (trendlineHypothesisValid c now) (λ e. rate-good Rate.None observed c now tt v n k g) (λ e. g)
+    cases (λ (d : DelayController). GoodRate (d .«rate_control»)) (trendlineHypothesisValid c now) (λ e. rate-good Rate.None observed c now tt v n k g) (λ e. g)
 
 timed-out-good : (l : Link) (now : ℕ) → now ≤ mostInstant → Good l → Good (timedOut l now)
 unfolding timedOut saturatingAdd
@@ -169,13 +170,13 @@ timed-out-good l now n g =
 
 -- ---- a call
 pub call-good : (l : Link) (k : Call) → Good l → Good (call l k .link)
-unfolding L.report L.timeout reportQuestions timeoutQuestions momentIn acceptedWith
-call-good l (report r) g = go (answered (reportQuestions l r) (omega arith) l (L.updated l r))
+unfolding timeoutQuestions momentIn acceptedWith
+call-good l (report r) g = go (report-answered l r)
   where
     go : {o : Outcome} → Answered (reportQuestions l r) l (L.updated l r) o → Good (o .link)
     go turnedDown = g
     go (taken y) = updated-good l (inOrder r (r .sizes)) (inOrder r (r .sends)) (inOrder r (r .remotes)) (inOrder r (r .receives)) (r .probe) (r .now) (good-report l r y) g
-call-good l (timeout now) g = go (answered (timeoutQuestions l now) (omega arith) l (timedOut l now))
+call-good l (timeout now) g = go (timeout-answered l now)
   where
     go : {o : Outcome} → Answered (timeoutQuestions l now) l (timedOut l now) o → Good (o .link)
     go turnedDown = g

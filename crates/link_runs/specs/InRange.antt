@@ -9,7 +9,7 @@ use lib.Dec.{T, not-T, lit≤}
 use lib.IntN.{pos}
 use lib.ListN.{length, getD, take}
 use lib.Ieee as Ieee
-use lib.Ieee.{Float, nan, inf, fin, binary64, le, lt, neg, up, down, fits}
+use lib.Ieee.{Float, nan, inf, fin, le, lt, neg, up, down}
 use Rattle.float_order.specs.Binary64.{lit}
 use Rattle.float_order.specs.Order.{ordered, le-trans, not-le→lt}
 use Rattle.float_order.specs.Ops.{zero₊}
@@ -89,7 +89,7 @@ use Rattle.link_state.specs.State.{
 use Rattle.link_state.specs.declared.Link.{Link}
 use Rattle.link.specs.Link.{mostInstant, opened, opening}
 use Rattle.link_runs.specs.Statement.{Call, run}
-use Rattle.link_runs.specs.Truth.{is-true}
+use Rattle.link_runs.specs.Tests.{is-true}
 use Rattle.link_runs.specs.Acknowledged.{GoodAcked}
 use Rattle.link_runs.specs.Overuse.{Anchored, mostSend}
 use Rattle.link_runs.specs.Packets.{GoodOveruse, GoodTrendline, SentIfAny, sent}

@@ -1,5 +1,5 @@
 pub mod Statement
-pub mod Truth
+pub mod Tests
 pub mod Acknowledged
 pub mod Overuse
 pub mod Packets
