@@ -12,7 +12,7 @@ use Rattle.receive_order.specs.Lists.{All}
 use Rattle.receive_order.specs.Laws.{ordered-all}
 use Rattle.link_state.specs.declared.Link.{Link}
 use Rattle.link.specs.Link as L
-use Rattle.link.specs.Link.{Outcome, Question, Report, acceptedWith, allAtLeast, allAtMost, firstNo, inOrder, listsIn, outcomeUnless, refused, reportQuestions, timeoutQuestions}
+use Rattle.link.specs.Link.{Outcome, Question, Report, acceptedWith, allAtLeast, allAtMost, every, firstNo, inOrder, listsIn, outcomeUnless, refused, reportQuestions, timeoutQuestions}
 use Rattle.link_runs.specs.Tests.{both}
 
 abbrev pub AllYes : List Question → Type 0
@@ -54,15 +54,16 @@ unfolding L.timeout timeoutQuestions
 timeout-answered l now = answered (timeoutQuestions l now) (omega arith) l (L.timedOut l now)
 
 -- ---- lists
+every-all : (test : ℕ → Bool) (P : ℕ → Type 0) → ((x : ℕ) → test x ≡ true → P x) → (xs : List ℕ) → every test xs ≡ true → All P xs
+unfolding every
+every-all test P f [] e = tt
+every-all test P f (x ∷ xs) e = let b = both (test x) (every test xs) e in (f x (b .0), every-all test P f xs (b .1))
+
 pub at-most : (n : ℕ) (xs : List ℕ) → allAtMost n xs ≡ true → All (λ x. x ≤ n) xs
-unfolding allAtMost
-at-most n [] e = tt
-at-most n (x ∷ xs) e = let b = both (leb x n) (allAtMost n xs) e in (leb-true x n (b .0), at-most n xs (b .1))
+at-most n = every-all (λ x. leb x n) (λ x. x ≤ n) (λ x. leb-true x n)
 
 pub at-least : (n : ℕ) (xs : List ℕ) → allAtLeast n xs ≡ true → All (λ x. n ≤ x) xs
-unfolding allAtLeast
-at-least n [] e = tt
-at-least n (x ∷ xs) e = let b = both (leb n x) (allAtLeast n xs) e in (leb-true n x (b .0), at-least n xs (b .1))
+at-least n = every-all (λ x. leb n x) (λ x. n ≤ x) (λ x. leb-true n x)
 
 -- each list is as long as the first
 pub record Lengths (n : ℕ) (sizes sends remotes receives : List ℕ) : Type 0 where
