@@ -61,7 +61,9 @@ pub fn make(module: &str, seed: u64, count: u64) {
             "trendline" => maker.trendline(&mut r),
             "rate" => maker.rate(&mut r),
             "control" => maker.control(&mut r),
-            "link" => maker.link(&mut r),
+            "link" => maker.link(&mut r, 30_000),
+            // many short links, for the stored sample
+            "links" => maker.link(&mut r, 400),
             _ => panic!("no such module"),
         };
         let answers = states.run(op, i);
@@ -345,9 +347,9 @@ impl Maker {
         (72, [r.below(8).min(1) | probe << 1, acked.to_bits(), f64::to_bits(acked * 1.5), self.now, 0])
     }
 
-    // A whole link: runs of a realistic path with phases of congestion, and wild ones with every boundary of every question.
-    fn link(&mut self, r: &mut Random) -> (u64, [u64; 5]) {
-        if !std::mem::replace(&mut self.started, true) || r.one_in(30_000) {
+    // A whole link: runs of a realistic path with phases of congestion, and wild ones with every boundary of every question. A run has some `length` cases.
+    fn link(&mut self, r: &mut Random, length: u64) -> (u64, [u64; 5]) {
+        if !std::mem::replace(&mut self.started, true) || r.one_in(length) {
             return self.opening(r);
         }
         if self.left > 0 {
@@ -356,7 +358,7 @@ impl Maker {
             return (91, self.packet(r));
         }
         self.recent.clear();
-        self.left = match r.below(40) {
+        self.left = match r.below(if length < 1000 { 200 } else { 40 }) {
             0 => r.pick(&[1023, 1024, 1025]),
             1 => r.below(300),
             2..6 => 0,

@@ -1,5 +1,5 @@
 // Replays cases of whole links (tools/oracle, module link) from standard input and compares every answer to the bit. A case is 12 words of 8 bytes,
-// little-endian: an operation, 5 inputs, 6 answers. Prints how many cases, packets and differences, and the first case that differs.
+// little-endian: an operation, 5 inputs, 6 answers. Prints how many cases and how many of them differ, how many packets, and the first case that differs.
 use bandwidth::BandwidthUsage;
 use bandwidth::Bitrate;
 use bandwidth::OptionBitrate;
@@ -137,11 +137,15 @@ fn probe(flag: u64, b: u64) -> OptionBitrate {
     OptionBitrate::None
 }
 
+// A list's length: one less for the list that is short.
 fn length(n: usize, short: u64, list: u64) -> usize {
-    if (short == list) & (n > 0) {
-        return n - 1;
+    if short != list {
+        return n;
     }
-    n
+    if n == 0 {
+        return 0;
+    }
+    n - 1
 }
 
 fn report(
@@ -294,11 +298,21 @@ fn many(done: Done, lists: &mut [u64], block: &[u8], n: usize) -> Done {
     done
 }
 
-fn line(name: &[u8], n: u64) {
+fn line(name: &[u8], a: u64, b: u64) {
     io::write_all(STDOUT_FILENO, name);
     io::write_all(STDOUT_FILENO, b" ");
-    io::print_decimal(STDOUT_FILENO, n);
+    io::print_decimal(STDOUT_FILENO, a);
+    io::write_all(STDOUT_FILENO, b" ");
+    io::print_decimal(STDOUT_FILENO, b);
     io::write_all(STDOUT_FILENO, b"\n");
+}
+
+fn report_counts(c: Counts) {
+    line(b"link", c.cases, c.wrong);
+    line(b"packets", c.packets, 0);
+    if c.first != 0 {
+        line(b"first", c.first, 0);
+    }
 }
 
 fn first_link() -> Link {
@@ -328,9 +342,6 @@ fn main() {
         }
         done = many(done, &mut lists, &block, n);
     }
-    let c = done.counts;
-    line(b"cases", c.cases);
-    line(b"packets", c.packets);
-    line(b"differences", c.wrong);
-    line(b"first", c.first);
+    let counts = done.counts;
+    report_counts(counts);
 }
