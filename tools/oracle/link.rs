@@ -85,6 +85,11 @@ impl Link {
         0
     }
 
+    /// Whether a timeout would hand the acknowledged rate on.
+    pub fn hands_on(&self, now: u64) -> bool {
+        self.control.hands_on(at(now))
+    }
+
     /// Estimate, hypothesis with counts, next timeout, threshold, acknowledged rate.
     pub fn shown(&self) -> [u64; 5] {
         let t = trend_words(self.control.peek().0);

@@ -7,6 +7,10 @@ use std::io::{BufWriter, Write};
 pub struct Random(pub u64);
 
 impl Random {
+    pub fn from_seed(seed: u64) -> Self {
+        Random(seed.wrapping_mul(0x9e37_79b9_7f4a_7c15) | 1)
+    }
+
     // xorshift64*
     pub fn next(&mut self) -> u64 {
         self.0 ^= self.0 >> 12;
@@ -47,7 +51,7 @@ const MS: u64 = 1_000_000;
 const MOST: u64 = 1_000_000_000_000_000_000;
 
 pub fn make(module: &str, seed: u64, count: u64) {
-    let mut r = Random(seed.wrapping_mul(0x9e37_79b9_7f4a_7c15) | 1);
+    let mut r = Random::from_seed(seed);
     let mut states = States::new();
     let mut out = BufWriter::with_capacity(1 << 20, std::io::stdout().lock());
     let mut maker = Maker::default();
@@ -136,7 +140,7 @@ fn bandwidth(r: &mut Random) -> (u64, [u64; 5]) {
 }
 
 #[derive(Default)]
-struct Maker {
+pub struct Maker {
     now: u64,
     rate: f64,
     send: u64,
@@ -348,7 +352,7 @@ impl Maker {
     }
 
     // A whole link: runs of a realistic path with phases of congestion, and wild ones with every boundary of every question. A run has some `length` cases.
-    fn link(&mut self, r: &mut Random, length: u64) -> (u64, [u64; 5]) {
+    pub fn link(&mut self, r: &mut Random, length: u64) -> (u64, [u64; 5]) {
         if !std::mem::replace(&mut self.started, true) || r.one_in(length) {
             return self.opening(r);
         }

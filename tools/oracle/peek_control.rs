@@ -4,4 +4,8 @@ impl super::DelayController {
         let rtt = self.get_smoothed_rtt().map_or((0, 0), |d| (1, d.as_nanos() as u64));
         (&self.trendline_estimator, rtt)
     }
+
+    pub fn hands_on(&self, now: std::time::Instant) -> bool {
+        self.trendline_hypothesis_valid(now)
+    }
 }
