@@ -95,8 +95,11 @@ pub record Outcome : Type 0 where
   pub reply : Reply
   pub link : Link
 
+abbrev pub answered : Answer → Link → Outcome
+answered a l = record { reply = reply a; link = l }
+
 abbrev pub outcome : Called → Outcome
-outcome c = record { reply = reply (c .answer); link = c .link }
+outcome c = answered (c .answer) (c .link)
 
 -- the estimate after a call is that of the link handed back
 abbrev pub estimate : Link → Float

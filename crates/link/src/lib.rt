@@ -161,6 +161,12 @@ fn probe_in(probe: OptionBitrate) -> bool
 }
 
 // ---- the calls
+fn refused(answer: Answer, link: Link) -> Called
+    ensures { λ r. ⌜ Calls.outcome r ≡ Calls.answered answer link ⌝ }
+{
+    Called { answer, link }
+}
+
 fn accepted(link: Link) -> Called
     ensures { λ r. ⌜ Calls.outcome r ≡ Calls.acceptedWith link ⌝ }
 {
@@ -228,10 +234,7 @@ fn process(
     let control = link.control;
     let done = acknowledge(acked, remotes, sizes);
     if !done.sums_in {
-        return Called {
-            answer: Answer::TooManyBytes,
-            link,
-        };
+        return refused(Answer::TooManyBytes, link);
     }
     let acked = done.acked;
     let control = control.update(
@@ -294,40 +297,22 @@ pub fn report(
     ensures { λ r. ⌜ Calls.outcome r ≡ Calls.report link (Calls.report-of (now (sequences .entry)) (now (sizes .entry)) (now (sends .entry)) (now (remotes .entry)) (now (receives .entry)) probe moment) ⌝ }
 {
     if !link.in_range() {
-        return Called {
-            answer: Answer::OutOfRange,
-            link,
-        };
+        return refused(Answer::OutOfRange, link);
     }
     if !lists_in(sequences, sizes, sends, remotes, receives) {
-        return Called {
-            answer: Answer::BadLists,
-            link,
-        };
+        return refused(Answer::BadLists, link);
     }
     if !instants_in(sends, remotes, receives) {
-        return Called {
-            answer: Answer::BadInstant,
-            link,
-        };
+        return refused(Answer::BadInstant, link);
     }
     if !all_at_least(sizes, 1) {
-        return Called {
-            answer: Answer::BadSize,
-            link,
-        };
+        return refused(Answer::BadSize, link);
     }
     if !moment_in(moment) {
-        return Called {
-            answer: Answer::BadMoment,
-            link,
-        };
+        return refused(Answer::BadMoment, link);
     }
     if !probe_in(probe) {
-        return Called {
-            answer: Answer::BadProbe,
-            link,
-        };
+        return refused(Answer::BadProbe, link);
     }
     process_unsorted(
         link,
@@ -345,16 +330,10 @@ pub fn timeout(link: Link, now: u64) -> Called
     ensures { λ r. ⌜ Calls.outcome r ≡ Calls.timeout link now ⌝ }
 {
     if !link.in_range() {
-        return Called {
-            answer: Answer::OutOfRange,
-            link,
-        };
+        return refused(Answer::OutOfRange, link);
     }
     if !moment_in(now) {
-        return Called {
-            answer: Answer::BadMoment,
-            link,
-        };
+        return refused(Answer::BadMoment, link);
     }
     let acked = link.acked;
     let control = link.control;

@@ -24,7 +24,9 @@ module _ (l : Link) (sizes sends remotes receives : List ℕ) (probe : OptionBit
   updates ea er ec y9 = rw (ec, er, ea) (sym (processed-yes l sizes sends remotes receives probe now y9))
 
 returns : tie.Need-returns
-returns c = sym (processed-9 _ _ _ _ _ _ _ (was-no (c .before .before .acknowledge .ensures .1) (c .if1 .taken)))
+returns c =
+    let q9 = c .before in
+    c .refused .ensures ∙ sym (processed-9 _ _ _ _ _ _ _ (was-no (q9 .before .before .acknowledge .ensures .1) (q9 .if1 .taken)))
 
 returns-2 : tie.Need-returns-2
 returns-2 c =
@@ -35,4 +37,4 @@ returns-2 c =
 pub process-spec : {M : Type 1} → statement M
 process-spec =
     tie.close
-    (tie.spec (λ c κs. search needs) returns (λ c κs. search needs) (λ c κs. search needs) (λ c κs. search needs) returns-2)
+    (tie.spec (λ c κs. search needs) (λ c κs. search needs) returns (λ c κs. search needs) (λ c κs. search needs) (λ c κs. search needs) returns-2)

@@ -7,42 +7,49 @@ use Rattle.link.proofs.report.Statement.{statement}
 use Rattle.link.proofs.report.Tie as tie
 
 returns : tie.Need-returns
-returns c = sym (report-1 _ _ (was-no (c .before .in-range .ensures) (c .if1 .taken)))
+returns c =
+    let q1 = c .before in
+    c .refused .ensures ∙ sym (report-1 _ _ (was-no (q1 .before .in-range .ensures) (q1 .if1 .taken)))
 
 returns-2 : tie.Need-returns-2
 returns-2 c =
-    let q1 = c .before .before in
-    sym (report-4 _ _ (was-yes (q1 .before .in-range .ensures) (q1 .if1 .left)) (was-no (c .before .lists-in .ensures) (c .if2 .taken)))
+    let q4 = c .before in
+    let q1 = q4 .before .before in
+    c .refused2 .ensures ∙ sym (report-4 _ _ (was-yes (q1 .before .in-range .ensures) (q1 .if1 .left)) (was-no (q4 .before .lists-in .ensures) (q4 .if2 .taken)))
 
 returns-3 : tie.Need-returns-3
 returns-3 c =
-    let q4 = c .before .before in
+    let q5 = c .before in
+    let q4 = q5 .before .before in
     let q1 = q4 .before .before in
-    sym (report-5 _ _ (was-yes (q1 .before .in-range .ensures) (q1 .if1 .left)) (was-yes (q4 .before .lists-in .ensures) (q4 .if2 .left)) (was-no (c .before .instants-in .ensures) (c .if3 .taken)))
+    c .refused3 .ensures ∙ sym (report-5 _ _ (was-yes (q1 .before .in-range .ensures) (q1 .if1 .left)) (was-yes (q4 .before .lists-in .ensures) (q4 .if2 .left)) (was-no (q5 .before .instants-in .ensures) (q5 .if3 .taken)))
 
 returns-4 : tie.Need-returns-4
 returns-4 c =
-    let q5 = c .before .before in
-    let q4 = q5 .before .before in
-    let q1 = q4 .before .before in
-    sym (report-6 _ _ (was-yes (q1 .before .in-range .ensures) (q1 .if1 .left)) (was-yes (q4 .before .lists-in .ensures) (q4 .if2 .left)) (was-yes (q5 .before .instants-in .ensures) (q5 .if3 .left)) (was-no (c .before .all-at-least .ensures) (c .if4 .taken)))
-
-returns-5 : tie.Need-returns-5
-returns-5 c =
-    let q6 = c .before .before in
+    let q6 = c .before in
     let q5 = q6 .before .before in
     let q4 = q5 .before .before in
     let q1 = q4 .before .before in
-    sym (report-7 _ _ (was-yes (q1 .before .in-range .ensures) (q1 .if1 .left)) (was-yes (q4 .before .lists-in .ensures) (q4 .if2 .left)) (was-yes (q5 .before .instants-in .ensures) (q5 .if3 .left)) (was-yes (q6 .before .all-at-least .ensures) (q6 .if4 .left)) (was-no (c .before .moment-in .ensures) (c .if5 .taken)))
+    c .refused4 .ensures ∙ sym (report-6 _ _ (was-yes (q1 .before .in-range .ensures) (q1 .if1 .left)) (was-yes (q4 .before .lists-in .ensures) (q4 .if2 .left)) (was-yes (q5 .before .instants-in .ensures) (q5 .if3 .left)) (was-no (q6 .before .all-at-least .ensures) (q6 .if4 .taken)))
 
-returns-6 : tie.Need-returns-6
-returns-6 c =
-    let q7 = c .before .before in
+returns-5 : tie.Need-returns-5
+returns-5 c =
+    let q7 = c .before in
     let q6 = q7 .before .before in
     let q5 = q6 .before .before in
     let q4 = q5 .before .before in
     let q1 = q4 .before .before in
-    sym (report-8 _ _ (was-yes (q1 .before .in-range .ensures) (q1 .if1 .left)) (was-yes (q4 .before .lists-in .ensures) (q4 .if2 .left)) (was-yes (q5 .before .instants-in .ensures) (q5 .if3 .left)) (was-yes (q6 .before .all-at-least .ensures) (q6 .if4 .left)) (was-yes (q7 .before .moment-in .ensures) (q7 .if5 .left)) (was-no (c .before .probe-in .ensures) (c .if6 .taken)))
+    c .refused5 .ensures ∙ sym (report-7 _ _ (was-yes (q1 .before .in-range .ensures) (q1 .if1 .left)) (was-yes (q4 .before .lists-in .ensures) (q4 .if2 .left)) (was-yes (q5 .before .instants-in .ensures) (q5 .if3 .left)) (was-yes (q6 .before .all-at-least .ensures) (q6 .if4 .left)) (was-no (q7 .before .moment-in .ensures) (q7 .if5 .taken)))
+
+returns-6 : tie.Need-returns-6
+returns-6 c =
+    let q8 = c .before in
+    let q7 = q8 .before .before in
+    let q6 = q7 .before .before in
+    let q5 = q6 .before .before in
+    let q4 = q5 .before .before in
+    let q1 = q4 .before .before in
+    c .refused6 .ensures ∙ sym (report-8 _ _ (was-yes (q1 .before .in-range .ensures) (q1 .if1 .left)) (was-yes (q4 .before .lists-in .ensures) (q4 .if2 .left)) (was-yes (q5 .before .instants-in .ensures) (q5 .if3 .left)) (was-yes (q6 .before .all-at-least .ensures) (q6 .if4 .left)) (was-yes (q7 .before .moment-in .ensures) (q7 .if5 .left)) (was-no (q8 .before .probe-in .ensures) (q8 .if6 .taken)))
 
 process-unsorted-requires : tie.Need-process-unsorted-requires
 process-unsorted-requires c κs =
@@ -62,4 +69,4 @@ returns-7 c =
 pub report-spec : {M : Type 1} → statement M
 report-spec =
     tie.close
-    (tie.spec (λ c κs. search needs) returns (λ c κs. search needs) returns-2 (λ c κs. search needs) returns-3 (λ c κs. search needs) returns-4 (λ c κs. search needs) returns-5 (λ c κs. search needs) returns-6 process-unsorted-requires returns-7)
+    (tie.spec (λ c κs. search needs) (λ c κs. search needs) returns (λ c κs. search needs) (λ c κs. search needs) returns-2 (λ c κs. search needs) (λ c κs. search needs) returns-3 (λ c κs. search needs) (λ c κs. search needs) returns-4 (λ c κs. search needs) (λ c κs. search needs) returns-5 (λ c κs. search needs) (λ c κs. search needs) returns-6 process-unsorted-requires returns-7)

@@ -21,12 +21,15 @@ module _ (l : Link) (now : ℕ) {rate : OptionBitrate} {control : DelayControlle
   updates er ec y1 y7 = rw (ec, er) (sym (timeout-yes l now y1 y7))
 
 returns : tie.Need-returns
-returns c = sym (timeout-1 _ _ (was-no (c .before .in-range .ensures) (c .if1 .taken)))
+returns c =
+    let q1 = c .before in
+    c .refused .ensures ∙ sym (timeout-1 _ _ (was-no (q1 .before .in-range .ensures) (q1 .if1 .taken)))
 
 returns-2 : tie.Need-returns-2
 returns-2 c =
-    let q1 = c .before .before in
-    sym (timeout-7 _ _ (was-yes (q1 .before .in-range .ensures) (q1 .if1 .left)) (was-no (c .before .moment-in .ensures) (c .if2 .taken)))
+    let q7 = c .before in
+    let q1 = q7 .before .before in
+    c .refused2 .ensures ∙ sym (timeout-7 _ _ (was-yes (q1 .before .in-range .ensures) (q1 .if1 .left)) (was-no (q7 .before .moment-in .ensures) (q7 .if2 .taken)))
 
 returns-3 : tie.Need-returns-3
 returns-3 c =
@@ -39,4 +42,4 @@ returns-3 c =
 pub timeout-spec : {M : Type 1} → statement M
 timeout-spec =
     tie.close
-    (tie.spec (λ c κs. search needs) returns (λ c κs. search needs) returns-2 (λ c κs. search needs) (λ c κs. search needs) (λ c κs. search needs) returns-3)
+    (tie.spec (λ c κs. search needs) (λ c κs. search needs) returns (λ c κs. search needs) (λ c κs. search needs) returns-2 (λ c κs. search needs) (λ c κs. search needs) (λ c κs. search needs) returns-3)
