@@ -1,9 +1,13 @@
 // Runs the rows of document 01 that are not theorems, and prints what each gives.
 use acked_bitrate_estimator::AckedBitrateEstimator;
 use arrival_group::ArrivalGroup;
+use bandwidth::Bitrate;
 use bandwidth::DataSize;
 use bandwidth::OptionBitrate;
+use control::DelayController;
 use libc::STDOUT_FILENO;
+use link::Answer;
+use link_state::Link;
 use trendline::Delays;
 
 // Two packets of which the second is sent and received so many ns after the first.
@@ -42,6 +46,44 @@ fn threshold(name: &[u8], modified_trend: f64) {
     io::write_all(STDOUT_FILENO, b": adapts\n");
 }
 
+fn number(answer: Answer) -> u64 {
+    match answer {
+        Answer::Accepted(_) => 0,
+        Answer::OutOfRange => 1,
+        Answer::BadLists => 4,
+        Answer::BadInstant => 5,
+        Answer::BadSize => 6,
+        Answer::BadMoment => 7,
+        Answer::BadProbe => 8,
+        Answer::TooManyBytes => 9,
+    }
+}
+
+fn fresh() -> Link {
+    let acked = AckedBitrateEstimator::new(500_000_000, 150_000_000);
+    let control = DelayController::new(Bitrate(1_000_000.0));
+    Link { acked, control }
+}
+
+// A report of packets of one byte, all sent and received at 0, to a fresh link.
+fn packets(name: &[u8], sizes: &[u64], instants: &[u64]) {
+    let called = link::report(
+        fresh(),
+        instants,
+        sizes,
+        instants,
+        instants,
+        instants,
+        OptionBitrate::None,
+        0,
+    );
+    let answer = called.answer;
+    io::write_all(STDOUT_FILENO, name);
+    io::write_all(STDOUT_FILENO, b": ");
+    io::print_decimal(STDOUT_FILENO, number(answer));
+    io::write_all(STDOUT_FILENO, b"\n");
+}
+
 fn main() {
     group(b"send and remote spacing of 5 ms", 5_000_000);
     group(b"send and remote spacing of 6 ms", 6_000_000);
@@ -51,4 +93,6 @@ fn main() {
         b"modified trend 27.5, and a unit in the last place more",
         27.500000000000004,
     );
+    packets(b"1,024 packets", &[1u64; 1024], &[0u64; 1024]);
+    packets(b"1,025 packets", &[1u64; 1025], &[0u64; 1025]);
 }
