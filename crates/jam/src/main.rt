@@ -8,13 +8,17 @@ use link::Called;
 use link::Opened;
 use link::Opening;
 use link_state::Link;
+use std::num::wrapping_add_u64;
 
 // How long a packet that was sent at so many ms waits, in ms: from 3 to 4 s each one waits 3 ms longer than the one before.
 fn queue(send: u64) -> u64 {
-    if (3000 <= send) & (send < 4000) {
-        return ((send - 3000) / 5 + 1) * 3;
+    if send < 3000 {
+        return 0;
     }
-    0
+    if send >= 4000 {
+        return 0;
+    }
+    ((send - 3000) / 5 + 1) * 3
 }
 
 // ns of so many ms after the link was opened.
@@ -36,25 +40,56 @@ fn sent(report: u64, i: u64) -> u64 {
     report * 50 + i * 5
 }
 
-// A report of 10 packets, taken 50 ms after its last one.
-fn report(link: Link, number: u64, first_size: u64) -> Called {
-    let mut sequences = [0u64; 10];
-    let mut sizes = [0u64; 10];
-    let mut sends = [0u64; 10];
-    let mut remotes = [0u64; 10];
-    let mut receives = [0u64; 10];
-    let mut i = 0;
-    while i < 10 {
-        let send = sent(number, i as u64);
-        let wait = queue(send);
-        sequences[i] = send;
-        sizes[i] = if send < 500 { first_size } else { 1200 };
-        sends[i] = ns(send);
-        remotes[i] = ns(std::num::wrapping_add_u64(send, 20 + wait));
-        receives[i] = ns(std::num::wrapping_add_u64(send, 40 + wait));
-        i += 1;
+struct Lists {
+    sequences: [u64; 10],
+    sizes: [u64; 10],
+    sends: [u64; 10],
+    remotes: [u64; 10],
+    receives: [u64; 10],
+}
+
+fn size(send: u64, first_size: u64) -> u64 {
+    if send < 500 {
+        return first_size;
     }
-    let moment = ns(std::num::wrapping_add_u64(sent(number, 0), 100));
+    1200
+}
+
+// With packet i, sent at so many ms.
+fn with_packet(lists: Lists, i: usize, send: u64, first_size: u64) -> Lists {
+    let mut l = lists;
+    if i >= 10 {
+        return l;
+    }
+    let arrival = wrapping_add_u64(send, queue(send));
+    l.sequences[i] = send;
+    l.sizes[i] = size(send, first_size);
+    l.sends[i] = ns(send);
+    l.remotes[i] = ns(wrapping_add_u64(arrival, 20));
+    l.receives[i] = ns(wrapping_add_u64(arrival, 40));
+    l
+}
+
+fn packets(report: u64, first_size: u64) -> Lists {
+    let mut lists = Lists {
+        sequences: [0; 10],
+        sizes: [0; 10],
+        sends: [0; 10],
+        remotes: [0; 10],
+        receives: [0; 10],
+    };
+    for i in 0..10usize {
+        lists = with_packet(lists, i, sent(report, i as u64), first_size);
+    }
+    lists
+}
+
+fn report(lists: Lists, moment: u64, link: Link) -> Called {
+    let sequences = lists.sequences;
+    let sizes = lists.sizes;
+    let sends = lists.sends;
+    let remotes = lists.remotes;
+    let receives = lists.receives;
     link::report(
         link,
         &sequences,
@@ -65,6 +100,11 @@ fn report(link: Link, number: u64, first_size: u64) -> Called {
         OptionBitrate::None,
         moment,
     )
+}
+
+// When a report is taken: 100 ms after its first packet was sent.
+fn taken(report: u64) -> u64 {
+    ns(wrapping_add_u64(sent(report, 0), 100))
 }
 
 fn is_refused(answer: Answer) -> u64 {
@@ -103,17 +143,27 @@ fn is_shown(number: u64) -> bool {
         | (number == 1199)
 }
 
+// The link, and how many reports it refused.
+struct State {
+    link: Link,
+    refused: u64,
+}
+
+fn next(number: u64, first_size: u64, state: State) -> State {
+    let called = report(packets(number, first_size), taken(number), state.link);
+    let answer = called.answer;
+    let link = called.link;
+    let refused = wrapping_add_u64(state.refused, is_refused(answer));
+    if is_shown(number) {
+        line(wrapping_add_u64(number / 20, 1), link, refused);
+    }
+    State { link, refused }
+}
+
 fn pass(link: Link, first_size: u64) {
-    let mut link = link;
-    let mut refused = 0;
+    let mut state = State { link, refused: 0 };
     for number in 0..1200u64 {
-        let called = report(link, number, first_size);
-        let answer = called.answer;
-        link = called.link;
-        refused = std::num::wrapping_add_u64(refused, is_refused(answer));
-        if is_shown(number) {
-            line(number / 20 + 1, link, refused);
-        }
+        state = next(number, first_size, state);
     }
 }
 

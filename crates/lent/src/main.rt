@@ -42,13 +42,13 @@ fn end() {
 
 fn estimate(x: f64) {
     let mut l = fresh();
-    l.control.rate_control.estimated_bitrate = Bitrate(x);
+    l.control.rate_control.estimated_bitrate.0 = x;
     show(l);
 }
 
 fn max_bitrate(x: f64) {
     let mut l = fresh();
-    l.control.rate_control.max_bitrate = Bitrate(x);
+    l.control.rate_control.max_bitrate.0 = x;
     show(l);
 }
 
@@ -84,9 +84,15 @@ fn variations(n: u64) {
 
 fn timings(n: usize, first: f64, second: f64) {
     let mut l = fresh();
-    l.control.trendline_estimator.history.len = n;
-    l.control.trendline_estimator.history.times[0] = first;
-    l.control.trendline_estimator.history.times[1] = second;
+    let mut control = l.control;
+    let mut trendline = control.trendline_estimator;
+    let mut history = trendline.history;
+    history.len = n;
+    history.times[0] = first;
+    history.times[1] = second;
+    trendline.history = history;
+    control.trendline_estimator = trendline;
+    l.control = control;
     show(l);
 }
 
@@ -111,12 +117,15 @@ fn window(ns: u64) {
 
 fn sum(bytes: i64, elapsed: u64) {
     let mut l = fresh();
-    l.acked.sum = DataSize(bytes);
-    l.acked.current_window = elapsed;
+    let mut acked = l.acked;
+    let size = DataSize(bytes);
+    acked.sum = size;
+    acked.current_window = elapsed;
+    l.acked = acked;
     show(l);
 }
 
-fn main() {
+fn rates() {
     name(b"estimate 40000, below; 10^10, above; NaN:");
     estimate(40_000.0);
     estimate(39_999.99999999999);
@@ -128,6 +137,9 @@ fn main() {
     max_bitrate(10_000_000_000.0);
     max_bitrate(1.0 / 0.0);
     end();
+}
+
+fn delays() {
     name(b"threshold 6, below; 600, above; NaN:");
     threshold(6.0);
     threshold(5.999999999999999);
@@ -148,6 +160,9 @@ fn main() {
     trend(1.0 / 0.0);
     trend(0.0 / 0.0);
     end();
+}
+
+fn histories() {
     name(b"delay variations 1000, 1001:");
     variations(1000);
     variations(1001);
@@ -165,6 +180,9 @@ fn main() {
     variance(2.0, 1.414213562373095);
     variance(1e30, 1e15);
     end();
+}
+
+fn windows() {
     name(b"next timeout 10^18 + 10^9, above:");
     next_timeout(1_000_000_001_000_000_000);
     next_timeout(1_000_000_001_000_000_001);
@@ -187,4 +205,11 @@ fn main() {
     sum(1, 10_000_000_000);
     sum(1, 10_000_000_001);
     end();
+}
+
+fn main() {
+    rates();
+    delays();
+    histories();
+    windows();
 }
