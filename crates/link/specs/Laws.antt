@@ -1,4 +1,5 @@
 -- Laws of a link's calls: what they give where a question is the first that is answered with no, and where none is.
+-- Of question k, nk says that its answer is no, yk that it is yes.
 use Prim.Native.Nat.{ℕ, _≤_}
 use native.Mathlib.Omega.{arith}
 use mathlib.Core.Path.{_≡_, refl, _∙_}
@@ -76,7 +77,7 @@ both true b e = (refl, e)
 both false b e = absurd (let z : _≡_ {A = ℕ} 0 1 = cc in omega arith)
 
 module _ (sequences sizes sends remotes receives : List ℕ) (y4 : listsIn sequences sizes sends remotes receives ≡ true) where
-  -- each list is as long as there are packets in order
+  -- each list is as long as the list of packets in order
   pub lists-count :
       (length sizes ≡ count remotes sends sequences) × (length sends ≡ count remotes sends sequences)
       × (length remotes ≡ count remotes sends sequences) × (length receives ≡ count remotes sends sequences)
