@@ -148,33 +148,34 @@ fn length(n: usize, short: u64, list: u64) -> usize {
     n - 1
 }
 
+// The n numbers from a start on. The lists always have so many; the other returns are never reached.
+fn part(lists: &[u64], start: usize, n: usize) -> &[u64] {
+    if start > lists.len() {
+        return lists;
+    }
+    if n > lists.len() - start {
+        return &lists[start..];
+    }
+    let end = start + n;
+    &lists[start..end]
+}
+
 fn report(
-    link: Link,
     lists: &[u64],
     n: usize,
     flag: u64,
     bits: u64,
     moment: u64,
     short: u64,
+    link: Link,
 ) -> link::Called {
-    if (n > 1100) | (lists.len() != 5500) {
-        return link::Called {
-            answer: Answer::OutOfRange,
-            link,
-        };
-    }
-    let a = length(n, short, 1);
-    let b = 1100 + length(n, short, 2);
-    let c = 2200 + length(n, short, 3);
-    let d = 3300 + length(n, short, 4);
-    let e = 4400 + length(n, short, 5);
     link::report(
         link,
-        &lists[0..a],
-        &lists[1100..b],
-        &lists[2200..c],
-        &lists[3300..d],
-        &lists[4400..e],
+        part(lists, 0, length(n, short, 1)),
+        part(lists, 1100, length(n, short, 2)),
+        part(lists, 2200, length(n, short, 3)),
+        part(lists, 3300, length(n, short, 4)),
+        part(lists, 4400, length(n, short, 5)),
         probe(flag, bits),
         moment,
     )
@@ -269,13 +270,13 @@ fn one(done: Done, lists: &mut [u64], block: &[u8], at: usize) -> Done {
     let link = done.link;
     if op == 92 {
         let c = report(
-            link,
             lists,
             done.waiting,
             word(block, at, 8),
             word(block, at, 16),
             word(block, at, 24),
             word(block, at, 32),
+            link,
         );
         return called(c, 0, counts, block, at);
     }
