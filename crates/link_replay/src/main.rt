@@ -1,5 +1,6 @@
 // Replays cases of whole links (tools/oracle, module link) from standard input and compares every answer to the bit. A case is 12 words of 8 bytes,
-// little-endian: an operation, 5 inputs, 6 answers. Prints how many cases and how many of them differ, how many packets, and the first case that differs.
+// little-endian: an operation, 5 inputs, 6 answers; a packet waits for its report and has no answers. Prints how many cases and how many of them differ, how many
+// of them are packets, and the first case that differs.
 use bandwidth::BandwidthUsage;
 use bandwidth::Bitrate;
 use bandwidth::OptionBitrate;
