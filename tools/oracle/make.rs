@@ -153,6 +153,7 @@ pub struct Maker {
     wild: bool,
     seq: u64,
     waiting: u64,
+    ties: u64,
     remote_offset: u64,
     recent: Vec<[u64; 5]>,
 }
@@ -362,6 +363,7 @@ impl Maker {
             return (91, self.packet(r));
         }
         self.recent.clear();
+        self.ties = 0;
         self.left = match r.below(if length < 1000 { 200 } else { 40 }) {
             0 => r.pick(&[1023, 1024, 1025]),
             1 => r.below(300),
@@ -421,8 +423,25 @@ impl Maker {
         (90, [start.to_bits(), windows.0, windows.1, 0, 0])
     }
 
+    // Packets with one send and one remote instant, often before the last: their sequences decide which size is dropped where time moves back.
+    fn tied(&mut self, r: &mut Random) -> [u64; 5] {
+        self.ties -= 1;
+        let like = self.recent[0];
+        [r.below(8), 1 + r.sized(16), like[2], like[3], like[4]]
+    }
+
     // A packet over a queue that fills and drains; equal keys, packets out of order, and on wild links any instant and size.
     fn packet(&mut self, r: &mut Random) -> [u64; 5] {
+        if self.ties > 0 {
+            return self.tied(r);
+        }
+        if self.recent.is_empty() && r.one_in(if self.wild { 6 } else { 60 }) {
+            self.ties = 1 + r.below(4);
+            let back = r.sized(33);
+            let first = [r.below(8), 1 + r.sized(16), self.send.saturating_sub(back), self.remote.saturating_sub(back), self.send];
+            self.recent.push(first);
+            return first;
+        }
         self.seq = self.seq.wrapping_add(1);
         self.send += match r.below(10) {
             0 => 0,
