@@ -100,7 +100,7 @@ impl Link {
 
 /// The user's failure: a link at 1,000,000 bps, 10 packets a report every 50 ms; those of the first half second have a size of `first` bytes, later ones
 /// 1,200; from 3 to 4 s each packet waits 3 ms longer than the one before, then the line is clean. Fed with no question asked, as the seller's gateway did.
-pub fn jam(first: u64) {
+pub fn zero_sizes(first: u64) {
     let mut link = open(1e6, 500_000_000, 150_000_000).ok().unwrap();
     let mut queue = 0;
     for report in 0..1200u64 {

@@ -3,7 +3,7 @@
 //!     oracle make MODULE SEED COUNT     cases with the Rust's answers, to standard output
 //!     oracle distance A B               how far the first answers (floats) of two files of cases lie apart
 //!     oracle demand3 SEED COUNT         looks for a list of calls that breaks demand 3
-//!     oracle jam SIZE                   the user's failure: the first half second's packets have this size
+//!     oracle zero_sizes SIZE            the user's failure: the first half second's packets have this size
 //!     oracle entries                    how far the growth table lies from this machine's `powf`
 //!
 //! A case is 12 words of 8 bytes, little-endian: an operation, 5 inputs, 6 answers. drive.rs has the operations, make.rs the cases.
@@ -86,10 +86,10 @@ fn main() {
         Some("make") if words.len() == 5 => make::make(&words[2], words[3].parse().unwrap(), words[4].parse().unwrap()),
         Some("distance") if words.len() == 4 => distance::distance(&words[2], &words[3]),
         Some("demand3") if words.len() == 4 => demand3::demand3(words[2].parse().unwrap(), words[3].parse().unwrap()),
-        Some("jam") if words.len() == 3 => bwe::link::jam(words[2].parse().unwrap()),
+        Some("zero_sizes") if words.len() == 3 => bwe::link::zero_sizes(words[2].parse().unwrap()),
         Some("entries") if words.len() == 2 => distance::entries(),
         _ => {
-            eprintln!("usage: oracle make MODULE SEED COUNT | distance A B | demand3 SEED COUNT | jam SIZE | entries");
+            eprintln!("usage: oracle make MODULE SEED COUNT | distance A B | demand3 SEED COUNT | zero_sizes SIZE | entries");
             std::process::exit(2);
         }
     }

@@ -414,7 +414,7 @@ impl Maker {
         let mut windows = r.pick(&[(500, 150), (500, 150), (1, 1), (10_000, 10_000), (10_000, 1), (1, 10_000), (150, 500), (7, 13)]);
         windows = (windows.0 * MS, windows.1 * MS);
         if r.one_in(8) {
-            start = f64::from_bits(r.pick(&[40_000.0f64, 1e10, f64::NAN, f64::INFINITY, 0.0, -1e6]).to_bits() ^ r.below(2));
+            start = f64::from_bits(r.pick(&[40_000.0f64, 1e10, f64::NAN, f64::INFINITY, 40_000f64.next_down(), -1e6]).to_bits() ^ r.below(2));
         }
         if r.one_in(8) {
             let bad = r.pick(&[0, 1, MS - 1, MS + 1, 10_000 * MS + 1, 10_001 * MS, 10_000 * MS, u64::MAX]);

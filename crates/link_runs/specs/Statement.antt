@@ -96,7 +96,7 @@ Reached E k R x = AtLeastSmallest (plus E k) (mul R threeHalves) (nat (10 ^ 10))
 -- Of a list of calls: after it the estimate is from 40,000 to 10^10 and the threshold from 6 to 600. And from any point of it on: if the calls that follow,
 -- up to any later point, hand on n + 1 rate updates or more, and are steady for R, then at that later point the estimate has reached E + 999 × n, where E is
 -- the estimate at the first point.
-pub record Unjammed (l : Link) (calls : List Call) : Type 0 where
+pub record RangeAndRecovery (l : Link) (calls : List Call) : Type 0 where
   pub estimate-in : In (nat 40000) (nat (10 ^ 10)) (estimate (run l calls))
   pub threshold-in : In (nat 6) (nat 600) (threshold (run l calls))
   pub recovery : (before next rest : List Call) → calls ≡ before ++ (next ++ rest)
@@ -106,4 +106,4 @@ pub record Unjammed (l : Link) (calls : List Call) : Type 0 where
 
 -- for every accepted opening and every list of calls, refused ones included
 abbrev pub Demand3 : Type 0
-Demand3 = (start : Bitrate) (initial window : ℕ) (l : Link) → opening start initial window ≡ opened l → (calls : List Call) → Unjammed l calls
+Demand3 = (start : Bitrate) (initial window : ℕ) (l : Link) → opening start initial window ≡ opened l → (calls : List Call) → RangeAndRecovery l calls

@@ -1,8 +1,8 @@
--- `jam::packets` ends: ten turns.
+-- `zero_size_packets::packets` ends: ten turns.
 use Prim.Native.Nat.{_≤_, _-_}
 use borrow.Author.Needs.{needs}
-use Rattle.jam.proofs.packets.Statement.{statement}
-use Rattle.jam.proofs.packets.Tie as tie
+use Rattle.zero_size_packets.proofs.packets.Statement.{statement}
+use Rattle.zero_size_packets.proofs.packets.Tie as tie
 
 abbrev Inv-loop : tie.InvT-loop
 Inv-loop report first-size lists₀ i₀ lists i = i ≤ 10

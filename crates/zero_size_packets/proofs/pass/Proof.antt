@@ -1,8 +1,8 @@
--- `jam::pass` ends: 1,200 turns.
+-- `zero_size_packets::pass` ends: 1,200 turns.
 use Prim.Native.Nat.{_≤_, _-_}
 use borrow.Author.Needs.{needs}
-use Rattle.jam.proofs.pass.Statement.{statement}
-use Rattle.jam.proofs.pass.Tie as tie
+use Rattle.zero_size_packets.proofs.pass.Statement.{statement}
+use Rattle.zero_size_packets.proofs.pass.Tie as tie
 
 abbrev Inv-loop : tie.InvT-loop
 Inv-loop first-size state₀ number₀ state number = number ≤ 1200
