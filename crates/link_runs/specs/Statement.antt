@@ -94,8 +94,8 @@ abbrev pub Reached : Float → ℕ → Float → Float → Type 0
 Reached E k R x = AtLeastSmallest (plus E k) (mul R threeHalves) (nat (10 ^ 10)) x
 
 -- Of a list of calls: after it the estimate is from 40,000 to 10^10 and the threshold from 6 to 600. And from any point of it on: if the calls that follow,
--- up to any later point, hand on n + 1 rate updates or more, and are steady for R, then at that later point the estimate has reached E + 999 × n, where E is
--- the estimate at the first point.
+-- up to any later point, hand on n + 1 rate updates or more, and are steady for R, then at that later point the estimate is at least the smallest of
+-- E + 999 × n, where E is the estimate at the first point, 1.5 × R and 10^10.
 pub record RangeAndRecovery (l : Link) (calls : List Call) : Type 0 where
   pub estimate-in : In (nat 40000) (nat (10 ^ 10)) (estimate (run l calls))
   pub threshold-in : In (nat 6) (nat 600) (threshold (run l calls))
