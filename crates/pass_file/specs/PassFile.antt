@@ -1,0 +1,126 @@
+-- Document 01, pass file and program: the calls that a pass file makes, the lines of their run, and the answer to a file.
+use Prim.Native.Nat.{ℕ, zero, suc}
+use Prim.Native.Char.{code}
+use mathlib.Core.Path.{_≡_}
+use mathlib.Core.Bool.{cond}
+use mathlib.Core.List.{List, [], _∷_, _++_, map}
+use lib.Dec.{eqb, leb, ltb}
+use lib.ListN.{length, drop}
+use lib.Ieee.{binary64, ofBits, toBits}
+use Rattle.bandwidth.specs.Bandwidth.{rate, bps}
+use Rattle.bandwidth.specs.declared.OptionBitrate.{OptionBitrate}
+use Rattle.bandwidth.specs.declared.OptionBitrate.the-variants as Rate
+use Rattle.bandwidth.specs.declared.BandwidthUsage.{BandwidthUsage}
+use Rattle.bandwidth.specs.declared.BandwidthUsage.the-variants as Usage
+use Rattle.link_state.specs.declared.Link.{Link}
+use Rattle.link.specs.Link as L
+use Rattle.link.specs.Link.{Reply, Outcome, accepted, refused, report-of, estimate, hypothesis, nextTimeout}
+use Rattle.link_runs.specs.Statement.{Call, call, report, timeout}
+use Rattle.pass_records.specs.PassRecords as Records
+use Rattle.pass_records.specs.PassRecords.{kind, flag, size, sequence, send, remote, receive, probeBits, chain, judge, number}
+use Rattle.listing_line.specs.ListingLine.{line}
+use Rattle.pass_file.specs.declared.Listed.{Listed}
+use Rattle.pass_file.specs.declared.Listed.the-variants as Listed
+
+-- the link that the calls are put to: at 1,000,000 bps, with windows of 500 and 150 ms
+abbrev pub first : Link
+first = L.new (bps 1000000) 500000000 150000000
+
+-- ---- the calls of a file
+abbrev pub probe : List ℕ → ℕ → OptionBitrate
+probe file k = cond (eqb (flag file k) 1) (Rate.Some (rate (ofBits binary64 (probeBits file k)))) Rate.None
+
+-- the call of record k, with these packets if it is a report
+abbrev pub callOf : List ℕ → ℕ → List ℕ → List ℕ → List ℕ → List ℕ → List ℕ → Call
+callOf file k sequences sizes sends remotes receives =
+    cond (eqb (kind file k) Records.report)
+    (report (report-of sequences sizes sends remotes receives (probe file k) (receive file k)))
+    (timeout (receive file k))
+
+-- the same, with the packets of the records that wait
+abbrev pub callAt : List ℕ → ℕ → List ℕ → Call
+callAt file k waiting = callOf file k (map (sequence file) waiting) (map (size file) waiting) (map (send file) waiting) (map (remote file) waiting) (map (receive file) waiting)
+
+-- a call, and the number of its record
+pub record Numbered : Type 0 where
+  pub number : ℕ
+  pub call : Call
+
+-- the calls along a chain: a packet waits for the next report, refused or not; packets left at the end are dropped
+unfoldable pub calls : List ℕ → List ℕ → List ℕ → List Numbered
+calls file waiting [] = []
+calls file waiting (k ∷ ks) =
+    cond (eqb (kind file k) Records.packet)
+    (calls file (waiting ++ (k ∷ [])) ks)
+    (record { number = k; call = callAt file k waiting } ∷ calls file (cond (eqb (kind file k) Records.report) [] waiting) ks)
+
+-- ---- the listing
+abbrev pub refusal : Reply → ℕ
+refusal (accepted e u t) = 0
+refusal (refused n) = n
+
+abbrev pub letter : BandwidthUsage → ℕ
+letter Usage.Overuse = code "O"
+letter Usage.Normal = code "N"
+letter Usage.Underuse = code "U"
+
+-- the line of record k: what its call gave, and the link after it, which a refused call leaves as it was
+unfoldable pub shown : ℕ → Outcome → List ℕ
+shown k o = line k (refusal (o .reply)) (letter (hypothesis (o .link))) (toBits binary64 (estimate (o .link))) (nextTimeout (o .link))
+
+-- the lines of a run: each call gets the link that the one before handed back
+unfoldable pub lines : Link → List Numbered → List ℕ
+lines l [] = []
+lines l (c ∷ cs) = shown (c .number) (call l (c .call)) ++ lines (call l (c .call) .link) cs
+
+unfoldable pub listing : List ℕ → List ℕ
+listing file = lines first (calls file [] (chain file))
+
+-- ---- the answer
+-- the least output that question 13 asks for
+abbrev pub leastOutput : ℕ
+leastOutput = 65536
+
+-- questions 10 to 12, then 13: the number of the first no, or 0
+unfoldable pub firstNo : List ℕ → ℕ → ℕ
+firstNo file room = cond (eqb (number (judge file)) 0) (cond (leb leastOutput room) 0 13) (number (judge file))
+
+-- a listing of so many bytes, or the number of the first no
+pub data Answer : Type 0 where
+  listed : ℕ → Answer
+  turnedDown : ℕ → Answer
+
+abbrev pub answer : Listed → Answer
+answer (Listed.Listing n) = listed n
+answer Listed.BadLength = turnedDown 10
+answer Listed.BadKind = turnedDown 11
+answer Listed.BadNext = turnedDown 12
+answer Listed.ShortOutput = turnedDown 13
+
+abbrev pub answerUnless : ℕ → List ℕ → Answer
+answerUnless zero text = listed (length text)
+answerUnless (suc n) text = turnedDown (suc n)
+
+unfoldable pub list : List ℕ → ℕ → Answer
+list file room = answerUnless (firstNo file room) (listing file)
+
+-- the output after: the listing, and after it the bytes that were there; a refusal leaves all as it was
+abbrev pub outputUnless : ℕ → List ℕ → List ℕ → List ℕ
+outputUnless zero text out = text ++ drop (length text) out
+outputUnless (suc n) text out = out
+
+unfoldable pub output : List ℕ → List ℕ → List ℕ
+output file out = outputUnless (firstNo file (length out)) (listing file) out
+
+-- ---- the packets that are kept: of a report with more than 1,025 any 1,025 give the same answer
+abbrev pub mostWaiting : ℕ
+mostWaiting = 1025
+
+-- how many are kept after one more
+abbrev pub oneMore : ℕ → ℕ
+oneMore n = cond (ltb n mostWaiting) (suc n) n
+
+-- the five lists have room for them
+abbrev pub KeptLengths : List ℕ → List ℕ → List ℕ → List ℕ → List ℕ → Type 0
+KeptLengths sequences sizes sends remotes receives =
+    (length sequences ≡ mostWaiting) × (length sizes ≡ mostWaiting) × (length sends ≡ mostWaiting) × (length remotes ≡ mostWaiting) × (length receives ≡ mostWaiting)
