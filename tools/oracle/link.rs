@@ -14,7 +14,7 @@ pub type Lists = [Vec<u64>; 5];
 
 pub struct Link {
     acked: AckedBitrateEstimator,
-    control: DelayController,
+    pub control: DelayController,
 }
 
 fn window_in(w: u64) -> bool {
@@ -75,6 +75,15 @@ impl Link {
         self.acked = acked;
         self.control.update(&packets, self.acked.current_estimate(), probe.map(Bitrate::from), at(now));
         0
+    }
+
+    /// A report of which nothing is asked, as bwe/mod.rs has it.
+    pub fn update(&mut self, mut packets: Vec<AckedPacket>, probe: Option<f64>, now: u64) {
+        packets.sort_by(AckedPacket::order_by_receive_time);
+        for p in &packets {
+            self.acked.update(p.remote_recv_time, p.size);
+        }
+        self.control.update(&packets, self.acked.current_estimate(), probe.map(Bitrate::from), at(now));
     }
 
     pub fn timeout(&mut self, now: u64) -> u64 {

@@ -255,8 +255,7 @@ impl ArrivalGroupAccumulator {
         let current = self.current_group;
         let added = current.add_packet(send, remote);
         if added.need_new_group {
-            let fresh = ArrivalGroup::new().add_packet(send, remote);
-            let current_group = fresh.group;
+            let current_group = ArrivalGroup::new().with_packet(send, remote);
             let delta = self.delta();
             let accumulator = ArrivalGroupAccumulator {
                 send_time_origin: OptionInstant::Some(origin),

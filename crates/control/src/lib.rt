@@ -77,23 +77,43 @@ impl Packets {
     ) -> Self
         ensures { λ r. ⌜ r ≡ Control.addAll self (now («local_send_times» .entry)) (now («remote_recv_times» .entry)) (now («local_recv_times» .entry)) ⌝ }
     {
-        let mut packets = self;
+        let mut accumulator = self.arrival_group_accumulator;
+        let mut trendline = self.trendline_estimator;
+        let mut max_rtt = self.max_rtt;
         let mut i = 0;
         while i < local_send_times.len() {
             if remote_recv_times.len() <= i {
-                return packets;
+                return Self {
+                    arrival_group_accumulator: accumulator,
+                    trendline_estimator: trendline,
+                    max_rtt,
+                };
             }
             if local_recv_times.len() <= i {
-                return packets;
+                return Self {
+                    arrival_group_accumulator: accumulator,
+                    trendline_estimator: trendline,
+                    max_rtt,
+                };
             }
-            packets = packets.add(
-                local_send_times[i],
-                remote_recv_times[i],
-                local_recv_times[i],
-            );
+            let rtt = time::saturating_duration_since(local_recv_times[i], local_send_times[i]);
+            max_rtt = time::longest(max_rtt, rtt);
+            let done = accumulator.accumulate_packet(local_send_times[i], remote_recv_times[i]);
+            accumulator = done.accumulator;
+            let delta = done.delta;
+            if let OptionDelta::Some(variation) = delta {
+                trendline = trendline.add_delay_observation(
+                    variation,
+                    variation.last_remote_recv_time,
+                );
+            }
             i += 1;
         }
-        packets
+        Self {
+            arrival_group_accumulator: accumulator,
+            trendline_estimator: trendline,
+            max_rtt,
+        }
     }
 }
 
@@ -157,18 +177,10 @@ impl DelayController {
     fn with_rate(self, rate_control: RateControl, next_timeout: u64) -> Self
         ensures { λ r. ⌜ r ≡ Control.withRate self «rate_control» «next_timeout» ⌝ }
     {
-        let arrival_group_accumulator = self.arrival_group_accumulator;
-        let trendline_estimator = self.trendline_estimator;
-        let smoothed_rtt = self.smoothed_rtt;
-        let last_twcc_report = self.last_twcc_report;
-        Self {
-            arrival_group_accumulator,
-            trendline_estimator,
-            rate_control,
-            smoothed_rtt,
-            next_timeout,
-            last_twcc_report,
-        }
+        let mut next = self;
+        next.rate_control = rate_control;
+        next.next_timeout = next_timeout;
+        next
     }
 
     // The state after a report's packets: groups, trendline and smoothed round trip; and when it was taken.
@@ -178,17 +190,13 @@ impl DelayController {
         let arrival_group_accumulator = packets.arrival_group_accumulator;
         let trendline_estimator = packets.trendline_estimator;
         let max_rtt = packets.max_rtt;
-        let rate_control = self.rate_control;
         let smoothed = self.smoothed_rtt;
-        let smoothed_rtt = update_rtt(smoothed, max_rtt);
-        Self {
-            arrival_group_accumulator,
-            trendline_estimator,
-            rate_control,
-            smoothed_rtt,
-            next_timeout: self.next_timeout,
-            last_twcc_report: OptionInstant::Some(now),
-        }
+        let mut next = self;
+        next.arrival_group_accumulator = arrival_group_accumulator;
+        next.trendline_estimator = trendline_estimator;
+        next.smoothed_rtt = update_rtt(smoothed, max_rtt);
+        next.last_twcc_report = OptionInstant::Some(now);
+        next
     }
 
     // A probe's result is applied as it is; else the observed rate, where there is one, goes to the rate control.

@@ -46,5 +46,18 @@ pub fn read_u32(s: &[u8], at: usize) -> u32
 pub fn read_u64(s: &[u8], at: usize) -> u64
     ensures { λ r. ⌜ r ≡ le 8 (now (s .entry)) at ⌝ }
 {
-    number(s, at, 8)
+    if s.len() <= at {
+        return 0;
+    }
+    if s.len() - at < 8 {
+        return number(s, at, 8);
+    }
+    s[at] as u64
+        | (s[at + 1] as u64) << 8
+        | (s[at + 2] as u64) << 16
+        | (s[at + 3] as u64) << 24
+        | (s[at + 4] as u64) << 32
+        | (s[at + 5] as u64) << 40
+        | (s[at + 6] as u64) << 48
+        | (s[at + 7] as u64) << 56
 }

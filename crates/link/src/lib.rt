@@ -245,7 +245,9 @@ fn process(
         probe,
         moment,
     );
-    let updated = Link { acked, control };
+    let mut updated = link;
+    updated.acked = acked;
+    updated.control = control;
     accepted(updated)
 }
 
@@ -337,7 +339,7 @@ pub fn timeout(link: Link, now: u64) -> Called
     }
     let acked = link.acked;
     let control = link.control;
-    let control = control.handle_timeout(acked.current_estimate(), now);
-    let timed_out = Link { acked, control };
+    let mut timed_out = link;
+    timed_out.control = control.handle_timeout(acked.current_estimate(), now);
     accepted(timed_out)
 }

@@ -17,12 +17,15 @@ fn width(n: u64) -> usize
     ensures { λ r. ⌜ (r ≡ Line.width n) × (r ≤ 20) ⌝ }
 {
     let mut w = 1;
-    let mut rest = n;
-    while 10 <= rest {
-        rest /= 10;
+    let mut power: u64 = 10;
+    while w < 19 {
+        if n < power {
+            return w;
+        }
+        power *= 10;
         w += 1;
     }
-    w
+    if n < power { 19 } else { 20 }
 }
 
 // The last k digits of n in base b, from the last to the first, and the byte that ends them.
@@ -41,13 +44,6 @@ fn put_digits(out: &mut [u8], at: usize, n: u64, b: u64, k: usize, end: u8) -> u
     at + k + 1
 }
 
-fn put_decimal(out: &mut [u8], at: usize, n: u64, end: u8) -> usize
-    requires { ⌜ at + Line.width n < length (now out) ⌝ }
-    ensures { λ r. ⌜ Line.Wrote (now (out .entry)) at (Line.field (Line.decimal n) end) (now (out .exit)) r ⌝ }
-{
-    put_digits(out, at, n, 10, width(n), end)
-}
-
 fn put_letter(out: &mut [u8], at: usize, letter: u8, end: u8) -> usize
     requires { ⌜ at + 1 < length (now out) ⌝ }
     ensures { λ r. ⌜ Line.Wrote (now (out .entry)) at (Line.field (letter ∷ []) end) (now (out .exit)) r ⌝ }
@@ -57,7 +53,7 @@ fn put_letter(out: &mut [u8], at: usize, letter: u8, end: u8) -> usize
     at + 2
 }
 
-// The five fields, where they have room.
+// The five fields, where they have room; the three numbers take so many digits.
 fn put_fields(
     out: &mut [u8],
     at: usize,
@@ -66,25 +62,23 @@ fn put_fields(
     letter: u8,
     bits: u64,
     next_timeout: u64,
+    record_width: usize,
+    number_width: usize,
+    timeout_width: usize,
 ) -> usize
+    requires { ⌜ («record_width» ≡ Line.width «record») × («number_width» ≡ Line.width number) × («timeout_width» ≡ Line.width «next_timeout») ⌝ }
     requires { ⌜ at + length (Line.line «record» number letter bits «next_timeout») ≤ length (now out) ⌝ }
     ensures { λ r. ⌜ Line.Wrote (now (out .entry)) at (Line.line «record» number letter bits «next_timeout») (now (out .exit)) r ⌝ }
 {
-    let a = put_decimal(out, at, record, 32);
-    let b = put_decimal(out, a, number, 32);
+    let a = put_digits(out, at, record, 10, record_width, 32);
+    let b = put_digits(out, a, number, 10, number_width, 32);
     let c = put_letter(out, b, letter, 32);
     let d = put_digits(out, c, bits, 16, 16, 32);
-    put_decimal(out, d, next_timeout, 10)
-}
-
-// How many bytes the line has: the three numbers, a letter, 16 digits and the bytes that end the fields.
-fn line_length(record: u64, number: u64, next_timeout: u64) -> usize
-    ensures { λ r. ⌜ r ≡ Line.width «record» + Line.width number + Line.width «next_timeout» + 22 ⌝ }
-{
-    width(record) + width(number) + width(next_timeout) + 22
+    put_digits(out, d, next_timeout, 10, timeout_width, 10)
 }
 
 // Writes the line from place at on and returns the place after it. Without room for all of it nothing is written, and at is returned.
+// A line has three numbers, a letter, 16 digits and the bytes that end the fields.
 pub fn put_line(
     out: &mut [u8],
     at: usize,
@@ -97,11 +91,14 @@ pub fn put_line(
     ensures { λ _. ⌜ now (out .exit) ≡ Line.putLine (now (out .entry)) at (Line.line «record» number letter bits «next_timeout») ⌝ }
     ensures { λ r. ⌜ r ≡ Line.placeAfter (now (out .entry)) at (Line.line «record» number letter bits «next_timeout») ⌝ }
 {
+    let a = width(record);
+    let b = width(number);
+    let c = width(next_timeout);
     if out.len() < at {
         return at;
     }
-    if out.len() - at < line_length(record, number, next_timeout) {
+    if out.len() - at < a + b + c + 22 {
         return at;
     }
-    put_fields(out, at, record, number, letter, bits, next_timeout)
+    put_fields(out, at, record, number, letter, bits, next_timeout, a, b, c)
 }
