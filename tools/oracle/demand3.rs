@@ -13,7 +13,7 @@ pub fn demand3(seed: u64, count: u64) {
     let mut stretch = Stretch::default();
     let (mut updates, mut bounds, mut longest) = (0u64, 0u64, 0usize);
     for case in 0..count {
-        let (op, i) = maker.link(&mut r, if seed % 2 == 0 { 30_000 } else { 3_000 });
+        let (op, i) = maker.link(&mut r, if seed % 2 == 0 { 30_000 } else { 3_000 }, 40);
         let update = match op {
             90 => {
                 if let Ok(opened) = link::open(f64::from_bits(i[0]), i[1], i[2]) {

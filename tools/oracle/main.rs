@@ -5,6 +5,7 @@
 //!     oracle demand3 SEED COUNT         looks for a list of calls that breaks demand 3
 //!     oracle zero_sizes SIZE            the user's failure: the first half second's packets have this size
 //!     oracle entries                    how far the growth table lies from this machine's `powf`
+//!     oracle passes SEED COUNT SIZE     pass files with the Rust's listings, to standard output; SIZE is short or long
 //!     oracle list                       the listing of the pass file on standard input, or the number of the question that it fails
 //!
 //! A case is 12 words of 8 bytes, little-endian: an operation, 5 inputs, 6 answers. drive.rs has the operations, make.rs the cases.
@@ -94,10 +95,11 @@ fn main() {
         Some("zero_sizes") if words.len() == 3 => bwe::link::zero_sizes(words[2].parse().unwrap()),
         Some("entries") if words.len() == 2 => distance::entries(),
         Some("list") if words.len() == 2 => pass_files::list(),
+        Some("passes") if words.len() == 5 => pass_files::make(words[2].parse().unwrap(), words[3].parse().unwrap(), words[4] == "long"),
         #[cfg(bench)]
         Some("bench") if words.len() > 2 => bench::bench(&words[2..]),
         _ => {
-            eprintln!("usage: oracle make MODULE SEED COUNT | distance A B | demand3 SEED COUNT | zero_sizes SIZE | entries | list");
+            eprintln!("usage: oracle make MODULE SEED COUNT | distance A B | demand3 SEED COUNT | zero_sizes SIZE | entries | passes SEED COUNT SIZE | list");
             std::process::exit(2);
         }
     }

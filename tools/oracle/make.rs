@@ -65,9 +65,9 @@ pub fn make(module: &str, seed: u64, count: u64) {
             "trendline" => maker.trendline(&mut r),
             "rate" => maker.rate(&mut r),
             "control" => maker.control(&mut r),
-            "link" => maker.link(&mut r, 30_000),
+            "link" => maker.link(&mut r, 30_000, 40),
             // many short links, for the stored sample
-            "links" => maker.link(&mut r, 400),
+            "links" => maker.link(&mut r, 400, 200),
             _ => panic!("no such module"),
         };
         let answers = states.run(op, i);
@@ -148,7 +148,7 @@ pub struct Maker {
     windows: (u64, u64),
     queue: u64,
     left: u64,
-    started: bool,
+    pub started: bool,
     size: u64,
     wild: bool,
     seq: u64,
@@ -352,8 +352,9 @@ impl Maker {
         (72, [r.below(8).min(1) | probe << 1, acked.to_bits(), f64::to_bits(acked * 1.5), self.now, 0])
     }
 
-    // A whole link: runs of a realistic path with phases of congestion, and wild ones with every boundary of every question. A run has some `length` cases.
-    pub fn link(&mut self, r: &mut Random, length: u64) -> (u64, [u64; 5]) {
+    // A whole link: runs of a realistic path with phases of congestion, and wild ones with every boundary of every question. A run has some `length` cases;
+    // one report in `large` has some 1,024 packets, and one some hundred.
+    pub fn link(&mut self, r: &mut Random, length: u64, large: u64) -> (u64, [u64; 5]) {
         if !std::mem::replace(&mut self.started, true) || r.one_in(length) {
             return self.opening(r);
         }
@@ -364,7 +365,7 @@ impl Maker {
         }
         self.recent.clear();
         self.ties = 0;
-        self.left = match r.below(if length < 1000 { 200 } else { 40 }) {
+        self.left = match r.below(large) {
             0 => r.pick(&[1023, 1024, 1025]),
             1 => r.below(300),
             2..6 => 0,
@@ -401,7 +402,7 @@ impl Maker {
         (92, [flag, probe, now, short, 0])
     }
 
-    fn opening(&mut self, r: &mut Random) -> (u64, [u64; 5]) {
+    pub fn opening(&mut self, r: &mut Random) -> (u64, [u64; 5]) {
         self.wild = r.one_in(3);
         let old = r.one_in(20);
         self.send = if old { MOST - 10_000 * 1_000_000_000 } else { r.pick(&[0, 1_000_000_000]) };

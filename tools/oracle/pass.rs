@@ -5,8 +5,8 @@ use super::{AckedPacket, BandwidthUsage};
 use crate::rtp_::{DataSize, TwccSeq};
 use std::io::Write;
 
-const RECORD_BYTES: usize = 48;
-const MOST_RECORDS: usize = 1365;
+pub const RECORD_BYTES: usize = 48;
+pub const MOST_RECORDS: usize = 1365;
 
 /// A record's fields.
 #[derive(Clone, Copy)]
@@ -62,6 +62,16 @@ fn judge(file: &[u8]) -> Result<(), u64> {
         k = next;
     }
     Ok(())
+}
+
+/// How many packets are linked.
+pub fn packets(file: &[u8]) -> u32 {
+    let (mut n, mut k) = (0, 1);
+    while k != 0 {
+        n += (record(file, k).kind() == 1) as u32;
+        k = record(file, k).next();
+    }
+    n
 }
 
 /// Record number, refusal number or 0, hypothesis letter, estimate bits, next timeout.
