@@ -1,1 +1,2 @@
 pub mod PassFile
+pub mod Laws
