@@ -114,18 +114,26 @@ either : {A : Type 0} (P : A → Type 0) (t : Bool) {x y : A} → P x → P y �
 either P true p q = p
 either P false p q = q
 
--- at most one for each record of the chain
-calls-few : (file waiting ks : List ℕ) (low last : ℕ) → last ≤ mostRecords → Rising low last ks
-    → RecordNumbers (calls file waiting ks) × (length (calls file waiting ks) ≤ length ks)
+-- calls of n records
+record CallsOf (n : ℕ) (cs : List Numbered) : Type 0 where
+  numbers : RecordNumbers cs
+  few : length cs ≤ n
+
+without-call : {n : ℕ} {cs : List Numbered} → CallsOf n cs → CallsOf (suc n) cs
+without-call h = record { numbers = h .numbers; few = omega arith }
+
+with-call : {n : ℕ} {c : Numbered} {cs : List Numbered} → c .number ≤ mostRecords → CallsOf n cs → CallsOf (suc n) (c ∷ cs)
+with-call i h = record { numbers = (i, h .numbers); few = omega arith }
+
+calls-few : (file waiting ks : List ℕ) (low last : ℕ) → last ≤ mostRecords → Rising low last ks → CallsOf (length ks) (calls file waiting ks)
 unfolding calls
-calls-few file waiting [] low last m r = (tt, omega arith)
+calls-few file waiting [] low last m r = record { numbers = tt; few = omega arith }
 calls-few file waiting (k ∷ ks) low last m r =
     either
-    (λ cs. RecordNumbers cs × (length cs ≤ suc (length ks)))
+    (CallsOf (suc (length ks)))
     (eqb (kind file k) Records.packet)
-    (let p = calls-few file (waiting ++ (k ∷ [])) ks k last m (r .1 .1) in (p .0, omega arith))
-    (let p = calls-few file (cond (eqb (kind file k) Records.report) [] waiting) ks k last m (r .1 .1) in
-    ((omega arith, p .0), omega arith))
+    (without-call (calls-few file _ ks k last m (r .1 .1)))
+    (with-call (omega arith) (calls-few file _ ks k last m (r .1 .1)))
 
 -- ---- the listing of a linked file
 -- the link that a listing starts from is that of an accepted opening
@@ -164,7 +172,7 @@ unfolding listing
 listing-of-run file e =
     let f = linked-file file e in
     let n = calls-few file [] (chain file) 0 (recordCount file) (f .most) (f .rising) in
-    let s = lines-short first (fileCalls file) first-good (n .0) in
+    let s = lines-short first (fileCalls file) first-good (n .numbers) in
     record {
       start = first-opened;
       line-of = λ before c after p.
@@ -174,9 +182,9 @@ listing-of-run file e =
             place = rw p (lines-split c first before after);
             handed-on = sym handed-on;
             estimate-in = rw handed-on at (all .estimate-in);
-            short = shown-short (linkAfter before) (c .call) (c .number) (run-good first (runCalls before) first-good) (number-in before after c (rw p at (n .0)));
+            short = shown-short (linkAfter before) (c .call) (c .number) (run-good first (runCalls before) first-good) (number-in before after c (rw p at (n .numbers)));
           };
-      few = omega (arith, f .few);
-      short = omega (arith, f .few);
-      most = omega (arith, f .few, f .most);
+      few = omega arith;
+      short = omega arith;
+      most = omega arith;
     }
