@@ -9,27 +9,24 @@ use lib.Dec.{eqb, ltb, leb}
 use lib.ListN.{length, set, take, drop, length-append, length-set, length-take, length-map}
 use lib.Seq.{sets, length-sets, length-take-le, sets-eq, set-out, take-all, take-append-le, take-nil, take-suc-set}
 use borrow.Author.Tests.{eq-eqb, ne-eqb, lt-leb, leb-true, leb-false, ltb-true, ltb-false}
-use Rattle.float_order.specs.Interval.{floats}
 use Rattle.trendline.specs.Cases.{cases}
-use Rattle.bandwidth.specs.Bandwidth.{bps}
-use Rattle.link_state.specs.State.{inRange, windowIn}
+use Rattle.link_state.specs.State.{inRange}
 use Rattle.link_state.specs.declared.Link.{Link}
 use Rattle.link.specs.Link as L
-use Rattle.link.specs.Link.{Outcome, Report, listsIn, outcome, reply, report-of}
-use Rattle.link.specs.Laws.{opening-yes, report-1, report-4}
-use Rattle.link.specs.declared.Answer.{Answer}
-use Rattle.link.specs.declared.Answer.the-variants as Answer
+use Rattle.link.specs.Link.{Outcome, Report, listsIn, outcome, report-of}
+use Rattle.link.specs.Laws.{report-1, report-4}
 use Rattle.link.specs.declared.Called.{Called}
 use Rattle.link_runs.specs.Statement.{call, report, timeout}
-use Rattle.link_runs.specs.Good.{Good, call-good, opening-good}
+use Rattle.link_runs.specs.Good.{Good, call-good}
 use Rattle.pass_records.specs.declared.Following.{Following}
 use Rattle.pass_records.specs.declared.Following.the-variants.{Next}
 use Rattle.pass_records.specs.PassRecords as Records
 use Rattle.pass_records.specs.Laws.{chain-step, followed}
 use Rattle.pass_records.specs.PassRecords.{chainFrom, follows, kind, onward, receive, remote, send, sequence, size}
 use Rattle.listing_line.specs.ListingLine.{Wrote, placeAfter, putLine}
-use Rattle.listing_line.specs.Laws.{line-short, put-room, sets-append}
-use Rattle.pass_file.specs.PassFile.{KeptLengths, callAt, callOf, calls, first, leastOutput, lines, listing, mostWaiting, oneMore, probe, refusal, shown}
+use Rattle.listing_line.specs.Laws.{put-room, sets-append}
+use Rattle.pass_file.specs.Laws.{first-good, shown-short}
+use Rattle.pass_file.specs.PassFile.{KeptLengths, callAt, callOf, calls, first, leastOutput, lines, listing, mostWaiting, oneMore, probe, shown}
 
 -- ---- the text that is left
 -- of the text `whole`, which goes to the start of `old`, the part `rest` is yet to be written, at place `at` of `new`
@@ -163,25 +160,6 @@ kept-call :
 kept-call {file} {waiting} l k p =
     rw (kept-part (p .sequences-kept), kept-part (p .sizes-kept), kept-part (p .sends-kept), kept-part (p .remotes-kept), kept-part (p .receives-kept)) (kept-enough l file k waiting)
 
-first-good : Good first
-unfolding windowIn
-first-good = opening-good (bps 1000000) 500000000 150000000 first (opening-yes (bps 1000000) 500000000 150000000 (unfold L.startIn floats in refl) (unfold L.windowsIn windowIn in refl))
-
--- ---- a line
-refusal-small : (a : Answer) → refusal (reply a) ≤ 13
-refusal-small (Answer.Accepted e) = omega arith
-refusal-small Answer.OutOfRange = omega arith
-refusal-small Answer.BadLists = omega arith
-refusal-small Answer.BadInstant = omega arith
-refusal-small Answer.BadSize = omega arith
-refusal-small Answer.BadMoment = omega arith
-refusal-small Answer.BadProbe = omega arith
-refusal-small Answer.TooManyBytes = omega arith
-
-shown-short : (k : ℕ) (c : Called) → k ≤ Records.mostRecords → Good (c .link) → length (shown k (outcome c)) ≤ 48
-unfolding shown
-shown-short k c h g = line-short k _ _ _ _ h (refusal-small (c .answer)) (omega (arith, g .timeout))
-
 -- ---- the lines that are left
 -- the lines of the records ks are left to write, after at most 48 bytes for each of `passed` records
 pub record Progress (file old ks : List ℕ) (passed : ℕ) (out sequences sizes sends remotes receives : List ℕ) (link : Link) (n at : ℕ) : Type 0 where
@@ -233,13 +211,14 @@ pub unrolled :
 unrolled {file} {last = last} {k} h p = rw (chain-step file last k h) at p
 
 module _ {file old ks out sequences sizes sends remotes receives : List ℕ} {link : Link} {n at : ℕ} where
-  -- values that equal these have come as far
+  -- the same of values that equal these
   pub same-progress : {out₁ sequences₁ sizes₁ sends₁ remotes₁ receives₁ : List ℕ} {link₁ : Link} {n₁ at₁ passed : ℕ}
       → out₁ ≡ out → sequences₁ ≡ sequences → sizes₁ ≡ sizes → sends₁ ≡ sends → remotes₁ ≡ remotes → receives₁ ≡ receives → link₁ ≡ link → n₁ ≡ n → at₁ ≡ at
       → Progress file old ks passed out sequences sizes sends remotes receives link n at
       → Progress file old ks passed out₁ sequences₁ sizes₁ sends₁ remotes₁ receives₁ link₁ n₁ at₁
   same-progress a b c d e f g h i p = rw (a, b, c, d, e, f, g, h, i) p
 
+  -- a bound for more records holds too
   pub further : (passed more : ℕ) → passed ≤ more → Progress file old ks passed out sequences sizes sends remotes receives link n at
       → Progress file old ks more out sequences sizes sends remotes receives link n at
   further passed more h p = record {
@@ -276,7 +255,7 @@ module _ {file old ks out sequences sizes sends remotes receives : List ℕ} {li
   called {new} {after} {k} {next} {place} c h low high r p e a b d f =
       let o : outcome c ≡ call link (callAt file k (p .waiting)) = e ∙ kept-call link k (p .kept) in
       let g : Good (c .link) = rw (ap (λ (x : Outcome). x .link) o) (call-good link (callAt file k (p .waiting)) (p .good)) in
-      let short = shown-short k c high g in
+      let short : length (shown k (outcome c)) ≤ 48 = rw o (shown-short link (callAt file k (p .waiting)) k (p .good) high) in
       let w = put-room out at (shown k (outcome c)) (omega (arith, p .size, p .room)) in
       let l = rw (lines-call file (p .waiting) ks k link h, ← o) at (p .left) in
       rw (a, b, d, f)
@@ -289,18 +268,17 @@ module _ {file old ks out sequences sizes sends remotes receives : List ℕ} {li
         left = left-wrote l w;
       })
 
--- after record k, by what follows it
+-- after record k: another record follows, or none
 module _ {file old out sequences sizes sends remotes receives : List ℕ} {link : Link} {n at : ℕ} (last k : ℕ)
     (p : Progress file old (onward (follows file last k) (chainFrom file last)) k out sequences sizes sends remotes receives link n at) where
   pub moved : (next : ℕ) → follows file last k ≡ Next next → Progress file old (chainFrom file last next) (next - 1) out sequences sizes sends remotes receives link n at
   moved next e = further k (next - 1) (omega (arith, followed file last k next e .above)) (rw e at p)
 
-  pub ended : (t : Following) → follows file last k ≡ t → onward t (chainFrom file last) ≡ [] → k ≤ Records.mostRecords → leastOutput ≤ length old
-      → Wrote old 0 (listing file) out at × (at ≤ length old)
-  ended t e f h r = (written (rw (e, f) at p), omega (arith, p .room))
+  pub ended : (t : Following) → follows file last k ≡ t → onward t (chainFrom file last) ≡ [] → Wrote old 0 (listing file) out at
+  ended t e f = written (rw (e, f) at p)
 
 -- a text at the start of the output, and after it the bytes that were there
-pub at-start : {out text new : List ℕ} {end : ℕ} → Wrote out 0 text new end × (end ≤ length out) → (end ≡ length text) × (new ≡ text ++ drop (length text) out)
-at-start {out} {text} w =
+pub at-start : {out text new : List ℕ} {end : ℕ} → length text ≤ length out → Wrote out 0 text new end → (end ≡ length text) × (new ≡ text ++ drop (length text) out)
+at-start {out} {text} h w =
     let e : 0 + length text ≡ length text = omega arith in
-    (omega arith, w .0 .bytes ∙ sets-eq text out 0 (omega arith) ∙ rw e)
+    (omega arith, w .bytes ∙ sets-eq text out 0 (omega arith) ∙ rw e)

@@ -181,7 +181,7 @@ fn list_chain(
 ) -> usize
     requires { ⌜ (Records.judge (now file) ≡ Linked) × («last» ≡ Records.recordCount (now file)) × (PassFile.leastOutput ≤ length (now out)) × (link ≡ PassFile.first) ⌝ }
     requires { ⌜ PassFile.KeptLengths (now sequences) (now sizes) (now sends) (now remotes) (now receives) ⌝ }
-    ensures { λ r. ⌜ Wrote (now (out .entry)) 0 (PassFile.listing (now (file .entry))) (now (out .exit)) r × (r ≤ length (now (out .entry))) ⌝ }
+    ensures { λ r. ⌜ Wrote (now (out .entry)) 0 (PassFile.listing (now (file .entry))) (now (out .exit)) r ⌝ }
 {
     let mut link = link;
     let mut n = 0;
@@ -228,7 +228,7 @@ fn list_chain(
 // The listing of a linked file.
 fn list_linked(file: &[u8], out: &mut [u8]) -> usize
     requires { ⌜ (Records.judge (now file) ≡ Linked) × (PassFile.leastOutput ≤ length (now out)) ⌝ }
-    ensures { λ r. ⌜ Wrote (now (out .entry)) 0 (PassFile.listing (now (file .entry))) (now (out .exit)) r × (r ≤ length (now (out .entry))) ⌝ }
+    ensures { λ r. ⌜ Wrote (now (out .entry)) 0 (PassFile.listing (now (file .entry))) (now (out .exit)) r ⌝ }
 {
     let mut sequences = [0u64; 1025];
     let mut sizes = [0u64; 1025];

@@ -1,6 +1,8 @@
 -- `pass_file::list` meets its contract: the judgement and the output's length choose the definition's case.
 use mathlib.Core.Path.{refl, sym, ap, _∙_}
 use borrow.Author.Tests.{le-leb, lt-leb}
+use native.Mathlib.Omega.{arith}
+use Rattle.pass_file.specs.Laws.{listing-of-run}
 use Rattle.pass_file.specs.PassFile.{firstNo, leastOutput, list, listed, output}
 use Rattle.pass_file.proofs.Chain.{at-start}
 use borrow.Author.Needs.{needs}
@@ -29,8 +31,10 @@ returns-4 c = rw (sym (c .before .before .judge .ensures) ∙ c .enum-told3 .giv
 returns-5 : tie.Need-returns-5
 unfolding firstNo list output
 returns-5 c =
-    let w = at-start (c .before .before .list-linked .ensures) in
-    rw (sym (c .before .before .before .before .before .before .before .judge .ensures) ∙ c .before .before .before .before .before .enum-told4 .given .1, le-leb leastOutput _ (c .before .before .before .before .if1 .left)) (ap listed (w .0), w .1)
+    let linked = sym (c .before .before .before .before .before .before .before .judge .ensures) ∙ c .before .before .before .before .before .enum-told4 .given .1 in
+    let room = c .before .before .before .before .if1 .left in
+    let w = at-start (omega (arith, listing-of-run _ linked .most, room)) (c .before .before .list-linked .ensures) in
+    rw (linked, le-leb leastOutput _ room) (ap listed (w .0), w .1)
 
 pub list-spec : {M : Type 1} → statement M
 list-spec =

@@ -90,8 +90,7 @@ loop-again c =
 finished : (c : tie.After-follows Inv-loop μ-loop) (t : Following)
     → c .follows .result ≡ t → onward t (chainFrom (now (start (c .before) .args .file)) (start (c .before) .args .last)) ≡ []
     → Wrote (now (start (c .before) .args .out)) 0 (listing (now (start (c .before) .args .file))) (c .before .if1 .out) (c .before .if1 .at)
-    × (c .before .if1 .at ≤ length (now (start (c .before) .args .out)))
-finished c t e f = ended _ _ (passed (c .before)) t (sym (c .follows .ensures) ∙ e) f (high (c .before)) (start (c .before) .pre .0 .2)
+finished c t e = ended _ _ (passed (c .before)) t (sym (c .follows .ensures) ∙ e)
 
 returns : tie.Need-returns Inv-loop μ-loop
 returns c = finished (c .before .before) _ (c .enum-told .given .1) refl
