@@ -1,6 +1,6 @@
 -- What the proofs of the listing cite: the packets that are kept, the calls that they make, and the lines that are left along the chain.
 use mathlib.Core.Path.{_≡_, refl, sym, ap, _∙_}
-use Prim.Native.Nat.{ℕ, suc, _+_, _*_, _-_, _≤_, _<_, min}
+use Prim.Native.Nat.{ℕ, suc, _+_, _-_, _≤_, _<_, min}
 use mathlib.Core.Bool.{Bool, true, false, cond, and-false}
 use mathlib.Core.List.{List, [], _∷_, _++_, map, map-append}
 use native.Mathlib.Nat.{sub-zero}
@@ -13,20 +13,17 @@ use Rattle.trendline.specs.Cases.{cases}
 use Rattle.link_state.specs.State.{inRange}
 use Rattle.link_state.specs.declared.Link.{Link}
 use Rattle.link.specs.Link as L
-use Rattle.link.specs.Link.{Outcome, Report, listsIn, outcome, report-of}
+use Rattle.link.specs.Link.{Report, listsIn, outcome, report-of}
 use Rattle.link.specs.Laws.{report-1, report-4}
 use Rattle.link.specs.declared.Called.{Called}
 use Rattle.link_runs.specs.Statement.{call, report, timeout}
-use Rattle.link_runs.specs.Good.{Good, call-good}
 use Rattle.pass_records.specs.declared.Following.{Following}
-use Rattle.pass_records.specs.declared.Following.the-variants.{Next}
 use Rattle.pass_records.specs.PassRecords as Records
-use Rattle.pass_records.specs.Laws.{chain-step, followed}
+use Rattle.pass_records.specs.Laws.{chain-step}
 use Rattle.pass_records.specs.PassRecords.{chainFrom, follows, kind, onward, receive, remote, send, sequence, size}
 use Rattle.listing_line.specs.ListingLine.{Wrote, placeAfter, putLine}
 use Rattle.listing_line.specs.Laws.{put-room, sets-append}
-use Rattle.pass_file.specs.Laws.{first-good, shown-short}
-use Rattle.pass_file.specs.PassFile.{KeptLengths, callAt, callOf, calls, first, leastOutput, lines, listing, mostWaiting, oneMore, probe, shown}
+use Rattle.pass_file.specs.PassFile.{KeptLengths, callAt, callOf, calls, first, lines, listing, mostWaiting, oneMore, probe, shown}
 
 -- ---- the text that is left
 -- of the text `whole`, which goes to the start of `old`, the part `rest` is yet to be written, at place `at` of `new`
@@ -161,13 +158,12 @@ kept-call {file} {waiting} l k p =
     rw (kept-part (p .sequences-kept), kept-part (p .sizes-kept), kept-part (p .sends-kept), kept-part (p .remotes-kept), kept-part (p .receives-kept)) (kept-enough l file k waiting)
 
 -- ---- the lines that are left
--- the lines of the records ks are left to write, after at most 48 bytes for each of `passed` records
-pub record Progress (file old ks : List ℕ) (passed : ℕ) (out sequences sizes sends remotes receives : List ℕ) (link : Link) (n at : ℕ) : Type 0 where
+-- the lines of the records ks are left to write, and the lists keep the packets that wait for them
+pub record Progress (file old ks out sequences sizes sends remotes receives : List ℕ) (link : Link) (n at : ℕ) : Type 0 where
   pub waiting : List ℕ
   pub kept : Kept file waiting n sequences sizes sends remotes receives
-  pub good : Good link
+  pub fits : length (listing file) ≤ length old
   pub size : length out ≡ length old
-  pub room : at ≤ 48 * passed
   pub left : Left old (listing file) out at (lines link (calls file waiting ks))
 
 module _ (file waiting ks : List ℕ) (k : ℕ) where
@@ -182,100 +178,80 @@ module _ (file waiting ks : List ℕ) (k : ℕ) where
   lines-call l h = rw (ne-eqb (kind file k) Records.packet h)
 
 -- no line has been written
-pub starts : {file out sequences sizes sends remotes receives : List ℕ} {link : Link} → KeptLengths sequences sizes sends remotes receives → link ≡ first
-    → Progress file out (Records.chain file) 0 out sequences sizes sends remotes receives link 0 0
+pub starts : {file out sequences sizes sends remotes receives : List ℕ} {link : Link} → length (listing file) ≤ length out
+    → KeptLengths sequences sizes sends remotes receives → link ≡ first
+    → Progress file out (Records.chain file) out sequences sizes sends remotes receives link 0 0
 unfolding listing
-starts h e =
+starts f h e =
     rw e
     (record {
       waiting = [];
       kept = none-kept h;
-      good = first-good;
+      fits = f;
       size = refl;
-      room = omega arith;
       left = record { bytes = refl; after = omega arith };
     })
 
 -- all lines have been written
-written :
-    {file old out sequences sizes sends remotes receives : List ℕ} {passed : ℕ} {link : Link} {n at : ℕ} → Progress file old [] passed out sequences sizes sends remotes receives link n at
+pub written :
+    {file old out sequences sizes sends remotes receives : List ℕ} {link : Link} {n at : ℕ} → Progress file old [] out sequences sizes sends remotes receives link n at
     → Wrote old 0 (listing file) out at
 unfolding calls lines
 written p = left-none (p .left)
 
--- the next record of the chain is at hand
-pub unrolled :
-    {file old out sequences sizes sends remotes receives : List ℕ} {last k passed : ℕ} {link : Link} {n at : ℕ} → k ≤ last
-    → Progress file old (chainFrom file last k) passed out sequences sizes sends remotes receives link n at
-    → Progress file old (k ∷ onward (follows file last k) (chainFrom file last)) passed out sequences sizes sends remotes receives link n at
-unrolled {file} {last = last} {k} h p = rw (chain-step file last k h) at p
+module _ {file old out sequences sizes sends remotes receives : List ℕ} {link : Link} {n at : ℕ} where
+  -- record k is the first of those left
+  pub unrolled : (last k : ℕ) → k ≤ last → Progress file old (chainFrom file last k) out sequences sizes sends remotes receives link n at
+      → Progress file old (k ∷ onward (follows file last k) (chainFrom file last)) out sequences sizes sends remotes receives link n at
+  unrolled last k h p = rw (chain-step file last k h) at p
+
+  -- after it, those that follow are left
+  pub onward-by : (last k : ℕ) (t : Following) → follows file last k ≡ t
+      → Progress file old (onward (follows file last k) (chainFrom file last)) out sequences sizes sends remotes receives link n at
+      → Progress file old (onward t (chainFrom file last)) out sequences sizes sends remotes receives link n at
+  onward-by last k t e p = rw e at p
 
 module _ {file old ks out sequences sizes sends remotes receives : List ℕ} {link : Link} {n at : ℕ} where
   -- the same of values that equal these
-  pub same-progress : {out₁ sequences₁ sizes₁ sends₁ remotes₁ receives₁ : List ℕ} {link₁ : Link} {n₁ at₁ passed : ℕ}
+  pub same-progress : {out₁ sequences₁ sizes₁ sends₁ remotes₁ receives₁ : List ℕ} {link₁ : Link} {n₁ at₁ : ℕ}
       → out₁ ≡ out → sequences₁ ≡ sequences → sizes₁ ≡ sizes → sends₁ ≡ sends → remotes₁ ≡ remotes → receives₁ ≡ receives → link₁ ≡ link → n₁ ≡ n → at₁ ≡ at
-      → Progress file old ks passed out sequences sizes sends remotes receives link n at
-      → Progress file old ks passed out₁ sequences₁ sizes₁ sends₁ remotes₁ receives₁ link₁ n₁ at₁
+      → Progress file old ks out sequences sizes sends remotes receives link n at
+      → Progress file old ks out₁ sequences₁ sizes₁ sends₁ remotes₁ receives₁ link₁ n₁ at₁
   same-progress a b c d e f g h i p = rw (a, b, c, d, e, f, g, h, i) p
 
-  -- a bound for more records holds too
-  pub further : (passed more : ℕ) → passed ≤ more → Progress file old ks passed out sequences sizes sends remotes receives link n at
-      → Progress file old ks more out sequences sizes sends remotes receives link n at
-  further passed more h p = record {
-    waiting = p .waiting;
-    kept = p .kept;
-    good = p .good;
-    size = p .size;
-    room = omega (arith, p .room);
-    left = p .left;
-  }
-
   -- a packet joins those that wait
-  pub joined : {sequences₁ sizes₁ sends₁ remotes₁ receives₁ : List ℕ} {k passed next : ℕ} → kind file k ≡ Records.packet
-      → Progress file old (k ∷ ks) passed out sequences sizes sends remotes receives link n at → next ≡ oneMore n
+  pub joined : {sequences₁ sizes₁ sends₁ remotes₁ receives₁ : List ℕ} {k next : ℕ} → kind file k ≡ Records.packet
+      → Progress file old (k ∷ ks) out sequences sizes sends remotes receives link n at → next ≡ oneMore n
       → sequences₁ ≡ set sequences n (sequence file k) → sizes₁ ≡ set sizes n (size file k) → sends₁ ≡ set sends n (send file k)
       → remotes₁ ≡ set remotes n (remote file k) → receives₁ ≡ set receives n (receive file k)
-      → Progress file old ks passed out sequences₁ sizes₁ sends₁ remotes₁ receives₁ link next at
+      → Progress file old ks out sequences₁ sizes₁ sends₁ remotes₁ receives₁ link next at
   joined {k = k} h p e a b c d f = record {
     waiting = p .waiting ++ (k ∷ []);
     kept = one-more-kept k (p .kept) e a b c d f;
-    good = p .good;
+    fits = p .fits;
     size = p .size;
-    room = p .room;
     left = rw (calls-packet file (p .waiting) ks k h) at (p .left);
   }
 
   -- a call is made, and its line written
-  pub called : {new : List ℕ} {after : Link} {k next place : ℕ} (c : Called) → (kind file k ≡ Records.packet → ⊥) → 0 < k → k ≤ Records.mostRecords → leastOutput ≤ length old
-      → Progress file old (k ∷ ks) (k - 1) out sequences sizes sends remotes receives link n at
+  pub called : {new : List ℕ} {after : Link} {k next place : ℕ} (c : Called) → (kind file k ≡ Records.packet → ⊥)
+      → Progress file old (k ∷ ks) out sequences sizes sends remotes receives link n at
       → outcome c ≡ call link (callOf file k (take (n - 0) sequences) (take (n - 0) sizes) (take (n - 0) sends) (take (n - 0) remotes) (take (n - 0) receives))
       → new ≡ putLine out at (shown k (outcome c)) → place ≡ placeAfter out at (shown k (outcome c)) → after ≡ c .link
       → next ≡ cond (eqb (kind file k) Records.report) 0 n
-      → Progress file old ks k new sequences sizes sends remotes receives after next place
-  called {new} {after} {k} {next} {place} c h low high r p e a b d f =
+      → Progress file old ks new sequences sizes sends remotes receives after next place
+  called {k = k} c h p e a b d f =
       let o : outcome c ≡ call link (callAt file k (p .waiting)) = e ∙ kept-call link k (p .kept) in
-      let g : Good (c .link) = rw (ap (λ (x : Outcome). x .link) o) (call-good link (callAt file k (p .waiting)) (p .good)) in
-      let short : length (shown k (outcome c)) ≤ 48 = rw o (shown-short link (callAt file k (p .waiting)) k (p .good) high) in
-      let w = put-room out at (shown k (outcome c)) (omega (arith, p .size, p .room)) in
       let l = rw (lines-call file (p .waiting) ks k link h, ← o) at (p .left) in
+      let w = put-room out at (shown k (outcome c)) (omega (arith, p .fits, p .size, simp length-append at (l .after))) in
       rw (a, b, d, f)
       (record {
         waiting = cond (eqb (kind file k) Records.report) [] (p .waiting);
         kept = kept-after (eqb (kind file k) Records.report) (p .kept);
-        good = g;
+        fits = p .fits;
         size = ap length (w .bytes) ∙ length-sets out at (shown k (outcome c)) ∙ p .size;
-        room = omega (arith, w .after, p .room);
         left = left-wrote l w;
       })
-
--- after record k: another record follows, or none
-module _ {file old out sequences sizes sends remotes receives : List ℕ} {link : Link} {n at : ℕ} (last k : ℕ)
-    (p : Progress file old (onward (follows file last k) (chainFrom file last)) k out sequences sizes sends remotes receives link n at) where
-  pub moved : (next : ℕ) → follows file last k ≡ Next next → Progress file old (chainFrom file last next) (next - 1) out sequences sizes sends remotes receives link n at
-  moved next e = further k (next - 1) (omega (arith, followed file last k next e .above)) (rw e at p)
-
-  pub ended : (t : Following) → follows file last k ≡ t → onward t (chainFrom file last) ≡ [] → Wrote old 0 (listing file) out at
-  ended t e f = written (rw (e, f) at p)
 
 -- a text at the start of the output, and after it the bytes that were there
 pub at-start : {out text new : List ℕ} {end : ℕ} → length text ≤ length out → Wrote out 0 text new end → (end ≡ length text) × (new ≡ text ++ drop (length text) out)
