@@ -1,1 +1,3 @@
 pub mod PassFile
+pub mod Laws
+pub mod Rows
