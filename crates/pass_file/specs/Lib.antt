@@ -1,3 +1,4 @@
 pub mod PassFile
 pub mod Laws
 pub mod Rows
+pub mod Unlinked

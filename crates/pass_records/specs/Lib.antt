@@ -1,3 +1,4 @@
 pub mod PassRecords
 pub mod Laws
 pub mod Rows
+pub mod Agree

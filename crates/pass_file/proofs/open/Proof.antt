@@ -11,7 +11,7 @@ million : ofBits binary64 0x412e_8480_0000_0000 ≡ ofInt binary64 (pos 1000000)
 million = unfold floats in refl
 
 returns : tie.Need-returns
-returns c = cc million
+returns c = rw (c .before .new .ensures, c .new2 .ensures, million)
 
 pub open-spec : {M : Type 1} → statement M
 open-spec = tie.close (tie.spec (λ c κs. search needs) (λ c κs. search needs) returns)
