@@ -31,6 +31,7 @@ fn number(s: &[u8], at: usize, n: usize) -> u64
     v
 }
 
+// Bytes that are all in s are joined by shifts, which compile to one load; the others go through number.
 pub fn read_u16(s: &[u8], at: usize) -> u16
     ensures { λ r. ⌜ r ≡ le 2 (now (s .entry)) at ⌝ }
 {
