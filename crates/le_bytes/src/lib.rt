@@ -31,16 +31,29 @@ fn number(s: &[u8], at: usize, n: usize) -> u64
     v
 }
 
+// Bytes that are all in s are joined by shifts, which compile to one load; the others go through number.
 pub fn read_u16(s: &[u8], at: usize) -> u16
     ensures { λ r. ⌜ r ≡ le 2 (now (s .entry)) at ⌝ }
 {
-    number(s, at, 2) as u16
+    if s.len() <= at {
+        return 0;
+    }
+    if s.len() - at < 2 {
+        return number(s, at, 2) as u16;
+    }
+    s[at] as u16 | (s[at + 1] as u16) << 8
 }
 
 pub fn read_u32(s: &[u8], at: usize) -> u32
     ensures { λ r. ⌜ r ≡ le 4 (now (s .entry)) at ⌝ }
 {
-    number(s, at, 4) as u32
+    if s.len() <= at {
+        return 0;
+    }
+    if s.len() - at < 4 {
+        return number(s, at, 4) as u32;
+    }
+    s[at] as u32 | (s[at + 1] as u32) << 8 | (s[at + 2] as u32) << 16 | (s[at + 3] as u32) << 24
 }
 
 pub fn read_u64(s: &[u8], at: usize) -> u64

@@ -2,13 +2,14 @@
 use mathlib.Core.Path.{_≡_, refl, _∙_}
 use Prim.Native.Nat.{ℕ, zero, suc, _+_, _/_, _%_, _*_, _^_, _≤_, _<_}
 use mathlib.Core.List.{List, [], _∷_, _++_}
-use native.Mathlib.Nat.{add-zero, add-suc, suc-add, pow-suc}
+use native.Mathlib.Nat.{add-zero, add-suc, suc-add, pow-suc, pow-le-pow-right}
+use native.Mathlib.Numerals.{add-one}
 use native.Mathlib.Omega.{arith}
+use lib.Dec.{lit<}
 use lib.ListN.{length, set, length-append}
 use lib.Seq.{sets, set-comm}
-use borrow.Author.Tests.{lt-ltb, le-ltb}
-use Rattle.listing_line.specs.ListingLine.{digit, digits, widthBy, width, decimal, hexadecimal, space, field, line, putLine, placeAfter, Wrote}
-use Rattle.listing_line.specs.Laws.{length-digits, length-line, sets-append, put-room, put-no-room}
+use Rattle.listing_line.specs.ListingLine.{digit, digits, width, hexadecimal, space, field, line, putLine, placeAfter, Wrote}
+use Rattle.listing_line.specs.Laws.{length-digits, width-le, width-gt, width-pos, length-line, sets-append, put-room, put-no-room}
 
 -- the last byte of a text may be written first
 sets-last : (xs l : List ℕ) (at x : ℕ) → sets l at (xs ++ (x ∷ [])) ≡ sets (set l (at + length xs) x) at xs
@@ -34,45 +35,54 @@ digits-end out at b k n end = record {
 }
 
 -- ---- how many digits a number takes
--- of t, w are counted, and those of r are left
-pub record Counted (t w r : ℕ) : Type 0 where
-  pub most : ℕ
-  pub few : w + most ≡ 20
-  pub small : r < 10 ^ suc most
-  pub left : t + 1 ≡ w + widthBy most r
+-- n takes w digits or more
+pub record Takes (n w power : ℕ) : Type 0 where
+  pub some : 0 < w
+  pub few : w ≤ 19
+  pub is-power : power ≡ 10 ^ w
+  pub least : w ≤ width n
 
-pub width-turn : {t w r : ℕ} → 10 ≤ r → Counted t w r → Counted t (w + 1) (r / 10)
-unfolding widthBy
-width-turn {t} {w} {r} h c = go (c .most) (c .few) (c .small) (c .left)
-  where
-    go : (f : ℕ) → w + f ≡ 20 → r < 10 ^ suc f → t + 1 ≡ w + widthBy f r → Counted t (w + 1) (r / 10)
-    go zero a b e = absurd (omega arith)
-    go (suc f) a b e =
-        let p : r < 10 ^ suc f * 10 = rw pow-suc at b in
-        record { most = f; few = omega arith; small = omega arith; left = omega (arith, simp (le-ltb r 10 h) at e) }
+pub width-start : (n : ℕ) → Takes n 1 10
+width-start n = record { some = omega arith; few = omega arith; is-power = refl; least = width-pos n }
 
-pub width-end : {t w r : ℕ} → r < 10 → Counted t w r → w ≡ t
-unfolding widthBy
-width-end {t} {w} {r} h c = omega (arith, go (c .most))
+pub width-fits : {n w power : ℕ} → w < 19 → Takes n w power → power ≤ 10 ^ 18
+width-fits {n} {w} h c = rw (c .is-power) (pow-le-pow-right (lit< tt) {j = 18} (omega arith))
+
+-- at the power or above it, one digit more
+pub width-more : {n w power : ℕ} → power ≤ n → Takes n w power → w < width n
+width-more {n} {w} {power} l c = width-gt w n (c .few) (rw (c .is-power) at l)
+
+pub width-turn : {n w power : ℕ} → w < 19 → power ≤ n → Takes n w power → Takes n (w + 1) (power * 10)
+width-turn {n} {w} {power} h l c = record {
+  some = omega arith;
+  few = omega arith;
+  is-power = rw (add-one, pow-suc, c .is-power);
+  least = omega (arith, width-more l c);
+}
+
+-- below the power, no more
+pub width-end : {n w power : ℕ} → n < power → Takes n w power → w ≡ width n
+width-end {n} {w} {power} h c = go w (c .some) (c .least) (rw (c .is-power) at h)
   where
-    go : (f : ℕ) → widthBy f r ≡ 1
-    go zero = refl
-    go (suc f) = simp (lt-ltb r 10 h)
+    go : (w : ℕ) → 0 < w → w ≤ width n → n < 10 ^ w → w ≡ width n
+    go zero a b h = absurd (omega arith)
+    go (suc d) a b h = omega (arith, width-le d n h)
 
 -- ---- a line
-pub record Lengths («record» number letter bits nextTimeout : ℕ) : Type 0 where
-  pub first : length (field (decimal «record») space) ≡ width «record» + 1
-  pub second : length (field (decimal number) space) ≡ width number + 1
+-- the lengths of the fields before the last, where the first two numbers are a and b digits, and of the line
+pub record Lengths («record» number letter bits nextTimeout a b : ℕ) : Type 0 where
+  pub first : length (field (digits 10 a «record») space) ≡ a + 1
+  pub second : length (field (digits 10 b number) space) ≡ b + 1
   pub fourth : length (field (hexadecimal bits) space) ≡ 17
   pub whole : length (line «record» number letter bits nextTimeout) ≡ width «record» + width number + width nextTimeout + 22
 
 length-field : (b k n end : ℕ) → length (field (digits b k n) end) ≡ k + 1
 length-field b k n end = simp (length-append, length-digits)
 
-pub lengths : («record» number letter bits nextTimeout : ℕ) → Lengths «record» number letter bits nextTimeout
-lengths «record» number letter bits nextTimeout = record {
-  first = length-field 10 (width «record») «record» space;
-  second = length-field 10 (width number) number space;
+pub lengths : («record» number letter bits nextTimeout a b : ℕ) → Lengths «record» number letter bits nextTimeout a b
+lengths «record» number letter bits nextTimeout a b = record {
+  first = length-field 10 a «record» space;
+  second = length-field 10 b number space;
   fourth = length-field 16 16 bits space;
   whole = length-line «record» number letter bits nextTimeout;
 }

@@ -4,12 +4,12 @@ use Prim.Native.Nat.{ℕ, zero, suc, _+_, _*_, _/_, _%_, _^_, _≤_, _<_}
 use mathlib.Core.Bool.{Bool, true, false, cond}
 use mathlib.Core.List.{List, [], _∷_, _++_, List·Memᴰ, List·Memᴰ·append-cases, List·Memᴰ·eq-of-singleton, List·Memᴰ·not-nil}
 use mathlib.Core.Logic.{⊎-elim}
-use native.Mathlib.Nat.{add-zero, add-suc, suc-add, pow-suc, mod-lt}
+use native.Mathlib.Nat.{add-zero, add-suc, suc-add, pow-suc, one-le-pow, mod-lt}
 use native.Mathlib.Omega.{arith}
 use lib.Dec.{ltb}
 use lib.ListN.{length, set, take, drop, length-append}
 use lib.Seq.{sets, sets-eq}
-use borrow.Author.Tests.{le-leb, lt-leb, lt-ltb, ltb-true, ltb-false}
+use borrow.Author.Tests.{le-leb, lt-leb, lt-ltb, le-ltb, ltb-true, ltb-false}
 use Rattle.listing_line.specs.ListingLine.{digit, digits, widthBy, width, decimal, hexadecimal, space, lineFeed, field, line, putLine, placeAfter, Wrote}
 
 -- ---- the length of a line
@@ -34,6 +34,33 @@ widthBy-le (suc d) (suc f) n h =
 pub width-le : (d n : ℕ) → n < 10 ^ suc d → width n ≤ suc d
 unfolding width
 width-le d n h = widthBy-le d 19 n h
+
+one-or-more : (t : Bool) (x : ℕ) → 0 < cond t 1 (suc x)
+one-or-more true x = omega arith
+one-or-more false x = omega arith
+
+widthBy-pos : (f n : ℕ) → 0 < widthBy f n
+unfolding widthBy
+widthBy-pos zero n = omega arith
+widthBy-pos (suc f) n = one-or-more (ltb n 10) _
+
+widthBy-gt : (d f n : ℕ) → d ≤ f → 10 ^ d ≤ n → d < widthBy f n
+unfolding widthBy
+widthBy-gt zero f n i h = widthBy-pos f n
+widthBy-gt (suc d) zero n i h = absurd (omega arith)
+widthBy-gt (suc d) (suc f) n i h =
+    let p : 10 ^ d * 10 ≤ n = rw pow-suc at h in
+    simp (le-ltb n 10 (omega (arith, one-le-pow d 10 (omega arith)))) (omega (arith, widthBy-gt d f (n / 10) (omega arith) (omega arith)))
+
+-- a number takes at least one digit
+pub width-pos : (n : ℕ) → 0 < width n
+unfolding width
+width-pos n = widthBy-pos 19 n
+
+-- a number of 10 ^ d or more takes more than d digits
+pub width-gt : (d n : ℕ) → d ≤ 19 → 10 ^ d ≤ n → d < width n
+unfolding width
+width-gt d n i h = widthBy-gt d 19 n i h
 
 module _ («record» number letter bits nextTimeout : ℕ) where
   pub length-line : length (line «record» number letter bits nextTimeout) ≡ width «record» + width number + width nextTimeout + 22
