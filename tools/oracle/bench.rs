@@ -1,16 +1,128 @@
-//! Benchmark
+//! Times the proved library's listing beside the Rust's, from one driver, on the same pass files (tools/bench). The two listings must be equal.
 use crate::bwe::pass;
+use crate::make::Random;
 use std::time::Instant;
-pub fn bench(files: &[String]) {
-    for name in files {
-        let file = std::fs::read(name).unwrap();
-        let mut out = vec![];
-        let mut best = f64::INFINITY;
-        for _ in 0..20 {
-            let t = Instant::now();
-            for _ in 0..100 { out.clear(); pass::list_plain(&file, &mut out); }
-            best = best.min(t.elapsed().as_secs_f64() / 100.0);
+
+unsafe extern "C" {
+    fn hornetpewter_list(file: *const u8, file_length: usize, out: *mut u8, out_length: usize) -> i64;
+}
+
+const MS: u64 = 1_000_000;
+
+/// A packet, report or timeout: kind, size, sequence, send, remote, receive or now.
+type Record = (u8, u16, u64, u64, u64, u64);
+
+fn report(now: u64) -> Record {
+    (2, 0, 0, 0, 0, now)
+}
+
+fn timeout(now: u64) -> Record {
+    (3, 0, 0, 0, 0, now)
+}
+
+/// 30 frames a second, 5 packets each, over a path that keeps their order with up to 3 ms of jitter; a report every 50 ms, and 25 ms after it the timeout that is due.
+fn typical() -> Vec<Record> {
+    let mut r = Random::from_seed(1);
+    let (mut records, mut waiting, mut last, mut sequence) = (vec![], std::collections::VecDeque::new(), 0, 0);
+    for ms in 0.. {
+        let now = (1000 + ms) * MS;
+        if ms % 100 % 33 == 0 && ms % 100 != 99 {
+            for i in 0..5 {
+                let send = now + i * MS / 2;
+                last = (send + 20 * MS + r.below(3 * MS)).max(last + MS / 10);
+                waiting.push_back((1, 1200, sequence, send, last, last + 25 * MS));
+                sequence += 1;
+            }
         }
-        println!("{name} {:.1} us, {} bytes", best * 1e6, out.len());
+        if ms % 50 == 49 {
+            let n = waiting.iter().take_while(|p| p.5 <= now).count();
+            if records.len() + n + 2 > 1365 {
+                return records;
+            }
+            records.extend(waiting.drain(..n));
+            records.push(report(now));
+        } else if ms % 50 == 24 {
+            records.push(timeout(now));
+        }
+    }
+    unreachable!()
+}
+
+/// One report of 1,024 packets, a millisecond apart, in the order that is given.
+fn large(order: impl Iterator<Item = u64>) -> Vec<Record> {
+    let mut records: Vec<Record> = order.map(|i| (1, 1200, i, (1000 + i) * MS, (1020 + i) * MS, (1040 + i) * MS)).collect();
+    records.push(report(3000 * MS));
+    records
+}
+
+fn shuffled() -> Vec<u64> {
+    let mut r = Random::from_seed(1);
+    let mut order: Vec<u64> = (0..1024).collect();
+    for i in (1..order.len()).rev() {
+        order.swap(i, r.below(i as u64 + 1) as usize);
+    }
+    order
+}
+
+fn file(records: &[Record]) -> Vec<u8> {
+    let mut file = vec![];
+    for (i, (kind, size, sequence, send, remote, receive)) in records.iter().enumerate() {
+        let next = if i + 1 == records.len() { 0 } else { i as u32 + 2 };
+        file.extend(next.to_le_bytes());
+        file.extend([*kind, 0]);
+        file.extend(size.to_le_bytes());
+        for word in [*sequence, *send, *remote, *receive, 0] {
+            file.extend(word.to_le_bytes());
+        }
+    }
+    file
+}
+
+fn ours(file: &[u8], out: &mut [u8]) -> usize {
+    let n = unsafe { hornetpewter_list(file.as_ptr(), file.len(), out.as_mut_ptr(), out.len()) };
+    assert!(n >= 0, "refused with {}", -n);
+    n as usize
+}
+
+/// The least time of one listing, in ns.
+fn timed(turns: u32, mut list: impl FnMut()) -> f64 {
+    let start = Instant::now();
+    for _ in 0..turns {
+        list();
+    }
+    start.elapsed().as_nanos() as f64 / turns as f64
+}
+
+pub fn bench(rounds: u32) {
+    println!("{:<30} {:>7} {:>5} {:>19} {:>19} {:>6}", "", "", "", "ns a packet", "ns a call", "");
+    println!("{:<30} {:>7} {:>5} {:>9} {:>9} {:>9} {:>9} {:>6}", "pass", "packets", "calls", "ours", "Rust", "ours", "Rust", "ratio");
+    let passes = [
+        ("typical", typical()),
+        ("1,024 packets in order", large(0..1024)),
+        ("1,024 packets, last first", large((0..1024).rev())),
+        ("1,024 packets, shuffled", large(shuffled().into_iter())),
+        ("timeouts only", (0..1365).map(|i| timeout((1000 + 25 * i) * MS)).collect()),
+    ];
+    for (name, records) in passes {
+        let file = file(&records);
+        let mut out = vec![0; 65_536];
+        let n = ours(&file, &mut out);
+        let mut theirs = Vec::with_capacity(65_536);
+        pass::list_plain(&file, &mut theirs);
+        assert!(out[..n] == theirs[..], "{name}: the listings differ");
+        let (mut a, mut b) = (f64::INFINITY, f64::INFINITY);
+        for _ in 0..rounds {
+            a = a.min(timed(20, || {
+                std::hint::black_box(ours(std::hint::black_box(&file), &mut out));
+            }));
+            b = b.min(timed(20, || {
+                theirs.clear();
+                pass::list_plain(std::hint::black_box(&file), std::hint::black_box(&mut theirs));
+            }));
+        }
+        let packets = records.iter().filter(|r| r.0 == 1).count();
+        let calls = records.len() - packets;
+        let each = |time: f64, n: usize| if n == 0 { "-".into() } else { format!("{:.1}", time / n as f64) };
+        println!("{name:<30} {packets:>7} {calls:>5} {:>9} {:>9} {:>9} {:>9} {:>6.2}", each(a, packets), each(b, packets), each(a, calls), each(b, calls), a / b);
     }
 }

@@ -97,7 +97,7 @@ fn main() {
         Some("list") if words.len() == 2 => pass_files::list(),
         Some("passes") if words.len() == 5 => pass_files::make(words[2].parse().unwrap(), words[3].parse().unwrap(), words[4] == "long"),
         #[cfg(bench)]
-        Some("bench") if words.len() > 2 => bench::bench(&words[2..]),
+        Some("bench") if words.len() == 3 => bench::bench(words[2].parse().unwrap()),
         _ => {
             eprintln!("usage: oracle make MODULE SEED COUNT | distance A B | demand3 SEED COUNT | zero_sizes SIZE | entries | passes SEED COUNT SIZE | list");
             std::process::exit(2);
