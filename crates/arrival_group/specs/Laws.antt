@@ -43,6 +43,12 @@ use Rattle.arrival_group.specs.ArrivalGroup.{
   withPacket,
 }
 
+-- ---- a group with no packet
+-- a packet always belongs to it
+pub add-packet-new : (send remote : ℕ) → addPacket new send remote .group ≡ withPacket new send remote
+unfolding addPacket belongsToGroup
+add-packet-new send remote = refl
+
 -- ---- rounding
 -- a whole number of ms after the origin, and within half a ms of what is rounded
 pub record Nearest (origin elapsed r : ℕ) : Type 0 where

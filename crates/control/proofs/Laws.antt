@@ -5,14 +5,32 @@ use Prim.Native.Nat.{ℕ, _+_, _<_, _≤_}
 use native.Mathlib.Numerals.{add-one}
 use lib.ListN.{length, drop, drop-of-length-le, getD}
 use lib.Seq.{drop-cons}
+use Rattle.time.specs.Time.{longest, saturatingDurationSince}
+use Rattle.time.specs.declared.OptionDuration.{OptionDuration}
+use Rattle.arrival_group.specs.ArrivalGroup.{accumulatePacket}
+use Rattle.arrival_group.specs.declared.Accumulated.{Accumulated}
+use Rattle.arrival_group.specs.declared.ArrivalGroupAccumulator.{ArrivalGroupAccumulator}
+use Rattle.trendline.specs.declared.TrendlineEstimator.{TrendlineEstimator}
 use Rattle.control.specs.declared.Packets.{Packets}
-use Rattle.control.specs.Control.{add, addAll}
+use Rattle.control.specs.Control.{add, addAll, observe}
+
+abbrev pub packets : ArrivalGroupAccumulator → TrendlineEstimator → OptionDuration → Packets
+packets groups trendline rtt = record { «arrival_group_accumulator» = groups; «trendline_estimator» = trendline; «max_rtt» = rtt }
 
 module _ (p : Packets) (sends remotes receives : List ℕ) (i : ℕ) where
-  pub add-turn : i < length sends → i < length remotes → i < length receives
-      → addAll p (drop i sends) (drop i remotes) (drop i receives) ≡ addAll (add p (getD sends i 0) (getD remotes i 0) (getD receives i 0)) (drop (i + 1) sends) (drop (i + 1) remotes) (drop (i + 1) receives)
-  unfolding addAll
-  add-turn hs hr hl = rw (add-one, drop-cons sends i 0, drop-cons remotes i 0, drop-cons receives i 0)
+  -- a packet, part by part
+  pub add-turn :
+      {done : Accumulated} {t : TrendlineEstimator} {rtt : ℕ} {m : OptionDuration} →
+      done ≡ accumulatePacket (p .«arrival_group_accumulator») (getD sends i 0) (getD remotes i 0) →
+      t ≡ observe (done .delta) (p .«trendline_estimator») →
+      rtt ≡ saturatingDurationSince (getD receives i 0) (getD sends i 0) →
+      m ≡ longest (p .«max_rtt») rtt →
+      i < length sends →
+      i < length remotes →
+      i < length receives →
+      addAll (packets (done .accumulator) t m) (drop (i + 1) sends) (drop (i + 1) remotes) (drop (i + 1) receives) ≡ addAll p (drop i sends) (drop i remotes) (drop i receives)
+  unfolding addAll add
+  add-turn ed et er em hs hr hl = rw (em, er, et, ed, add-one, drop-cons sends i 0, drop-cons remotes i 0, drop-cons receives i 0)
 
   pub sends-end : length sends ≤ i → addAll p (drop i sends) (drop i remotes) (drop i receives) ≡ p
   unfolding addAll

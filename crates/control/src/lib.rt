@@ -39,35 +39,6 @@ pub struct Packets {
 }
 
 impl Packets {
-    // A packet, in the order of receipt.
-    pub fn add(self, local_send_time: u64, remote_recv_time: u64, local_recv_time: u64) -> Self
-        ensures { λ r. ⌜ r ≡ Control.add self «local_send_time» «remote_recv_time» «local_recv_time» ⌝ }
-    {
-        let accumulator = self.arrival_group_accumulator;
-        let trendline = self.trendline_estimator;
-        let before = self.max_rtt;
-        let rtt = time::saturating_duration_since(local_recv_time, local_send_time);
-        let max_rtt = time::longest(before, rtt);
-        let done = accumulator.accumulate_packet(local_send_time, remote_recv_time);
-        let arrival_group_accumulator = done.accumulator;
-        let delta = done.delta;
-        match delta {
-            OptionDelta::None => Self {
-                arrival_group_accumulator,
-                trendline_estimator: trendline,
-                max_rtt,
-            },
-            OptionDelta::Some(variation) => Self {
-                arrival_group_accumulator,
-                trendline_estimator: trendline.add_delay_observation(
-                    variation,
-                    variation.last_remote_recv_time,
-                ),
-                max_rtt,
-            },
-        }
-    }
-
     // A report's packets in the order of receipt, as three lists; what one list has more is left out.
     fn add_all(
         self,
@@ -96,9 +67,12 @@ impl Packets {
                     max_rtt,
                 };
             }
-            let rtt = time::saturating_duration_since(local_recv_times[i], local_send_times[i]);
+            let local_send_time = local_send_times[i];
+            let remote_recv_time = remote_recv_times[i];
+            let local_recv_time = local_recv_times[i];
+            let rtt = time::saturating_duration_since(local_recv_time, local_send_time);
             max_rtt = time::longest(max_rtt, rtt);
-            let done = accumulator.accumulate_packet(local_send_times[i], remote_recv_times[i]);
+            let done = accumulator.accumulate_packet(local_send_time, remote_recv_time);
             accumulator = done.accumulator;
             let delta = done.delta;
             if let OptionDelta::Some(variation) = delta {
@@ -190,13 +164,17 @@ impl DelayController {
         let arrival_group_accumulator = packets.arrival_group_accumulator;
         let trendline_estimator = packets.trendline_estimator;
         let max_rtt = packets.max_rtt;
+        let rate_control = self.rate_control;
         let smoothed = self.smoothed_rtt;
-        let mut next = self;
-        next.arrival_group_accumulator = arrival_group_accumulator;
-        next.trendline_estimator = trendline_estimator;
-        next.smoothed_rtt = update_rtt(smoothed, max_rtt);
-        next.last_twcc_report = OptionInstant::Some(now);
-        next
+        let smoothed_rtt = update_rtt(smoothed, max_rtt);
+        Self {
+            arrival_group_accumulator,
+            trendline_estimator,
+            rate_control,
+            smoothed_rtt,
+            next_timeout: self.next_timeout,
+            last_twcc_report: OptionInstant::Some(now),
+        }
     }
 
     // A probe's result is applied as it is; else the observed rate, where there is one, goes to the rate control.

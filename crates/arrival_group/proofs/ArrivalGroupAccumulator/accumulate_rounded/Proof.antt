@@ -1,5 +1,6 @@
--- The test of the code is the definition's, and each branch builds the record that it defines.
+-- The test of the code is the definition's, and each branch builds the record that it defines; a packet belongs to a fresh group.
 use Rattle.arrival_group.specs.ArrivalGroup.{accumulateRounded}
+use Rattle.arrival_group.specs.Laws.{add-packet-new}
 use borrow.Author.Needs.{needs}
 use Rattle.arrival_group.proofs.ArrivalGroupAccumulator.accumulate_rounded.Statement.{
   statement,
@@ -8,7 +9,7 @@ use Rattle.arrival_group.proofs.ArrivalGroupAccumulator.accumulate_roun
 
 returns : tie.Need-returns
 unfolding accumulateRounded
-returns c = simp (← c .delta .ensures, ← c .before .before .add-packet2 .ensures, ← c .before .before .before .new .ensures, c .before .before .before .before .if1 .taken, ← c .before .before .before .before .before .add-packet .ensures)
+returns c = simp (add-packet-new, ← c .delta .ensures, ← c .before .with-packet .ensures, ← c .before .before .new .ensures, c .before .before .before .if1 .taken, ← c .before .before .before .before .add-packet .ensures)
 
 returns-2 : tie.Need-returns-2
 unfolding accumulateRounded
