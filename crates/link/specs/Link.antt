@@ -219,6 +219,14 @@ reportQuestions l r =
 unfoldable pub report : Link → Report → Outcome
 report l r = outcomeUnless (firstNo (reportQuestions l r)) l (updated l r)
 
+-- the same without question 1
+abbrev pub afterFirst : List Question → List Question
+afterFirst [] = []
+afterFirst (q ∷ qs) = qs
+
+unfoldable pub reportInRange : Link → Report → Outcome
+reportInRange l r = outcomeUnless (firstNo (afterFirst (reportQuestions l r))) l (updated l r)
+
 -- the same from question 9 on, of packets in the order of receipt
 unfoldable pub processed : Link → List ℕ → List ℕ → List ℕ → List ℕ → OptionBitrate → ℕ → Outcome
 processed l sizes sends remotes receives probe now =
@@ -236,3 +244,6 @@ timeoutQuestions l now = question 1 (inRange l) ∷ question 7 (momentIn now) �
 
 unfoldable pub timeout : Link → ℕ → Outcome
 timeout l now = outcomeUnless (firstNo (timeoutQuestions l now)) l (timedOut l now)
+
+unfoldable pub timeoutInRange : Link → ℕ → Outcome
+timeoutInRange l now = outcomeUnless (firstNo (afterFirst (timeoutQuestions l now))) l (timedOut l now)

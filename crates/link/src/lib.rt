@@ -245,9 +245,7 @@ fn process(
         probe,
         moment,
     );
-    let mut updated = link;
-    updated.acked = acked;
-    updated.control = control;
+    let updated = Link { acked, control };
     accepted(updated)
 }
 
@@ -285,8 +283,8 @@ fn process_unsorted(
     )
 }
 
-// A report: its packets as five lists, a probe's result or none, and the moment.
-pub fn report(
+// A report to a link that is in range, as every link that a run reaches is (crates/link_runs): question 1 is not put.
+pub fn report_in_range(
     link: Link,
     sequences: &[u64],
     sizes: &[u64],
@@ -296,11 +294,8 @@ pub fn report(
     probe: OptionBitrate,
     moment: u64,
 ) -> Called
-    ensures { λ r. ⌜ Calls.outcome r ≡ Calls.report link (Calls.report-of (now (sequences .entry)) (now (sizes .entry)) (now (sends .entry)) (now (remotes .entry)) (now (receives .entry)) probe moment) ⌝ }
+    ensures { λ r. ⌜ Calls.outcome r ≡ Calls.reportInRange link (Calls.report-of (now (sequences .entry)) (now (sizes .entry)) (now (sends .entry)) (now (remotes .entry)) (now (receives .entry)) probe moment) ⌝ }
 {
-    if !link.in_range() {
-        return refused(Answer::OutOfRange, link);
-    }
     if !lists_in(sequences, sizes, sends, remotes, receives) {
         return refused(Answer::BadLists, link);
     }
@@ -328,12 +323,38 @@ pub fn report(
     )
 }
 
-pub fn timeout(link: Link, now: u64) -> Called
-    ensures { λ r. ⌜ Calls.outcome r ≡ Calls.timeout link now ⌝ }
+// A report: its packets as five lists, a probe's result or none, and the moment.
+pub fn report(
+    link: Link,
+    sequences: &[u64],
+    sizes: &[u64],
+    sends: &[u64],
+    remotes: &[u64],
+    receives: &[u64],
+    probe: OptionBitrate,
+    moment: u64,
+) -> Called
+    ensures { λ r. ⌜ Calls.outcome r ≡ Calls.report link (Calls.report-of (now (sequences .entry)) (now (sizes .entry)) (now (sends .entry)) (now (remotes .entry)) (now (receives .entry)) probe moment) ⌝ }
 {
     if !link.in_range() {
         return refused(Answer::OutOfRange, link);
     }
+    report_in_range(
+        link,
+        sequences,
+        sizes,
+        sends,
+        remotes,
+        receives,
+        probe,
+        moment,
+    )
+}
+
+// A timeout of a link that is in range: question 1 is not put.
+pub fn timeout_in_range(link: Link, now: u64) -> Called
+    ensures { λ r. ⌜ Calls.outcome r ≡ Calls.timeoutInRange link now ⌝ }
+{
     if !moment_in(now) {
         return refused(Answer::BadMoment, link);
     }
@@ -342,4 +363,13 @@ pub fn timeout(link: Link, now: u64) -> Called
     let mut timed_out = link;
     timed_out.control = control.handle_timeout(acked.current_estimate(), now);
     accepted(timed_out)
+}
+
+pub fn timeout(link: Link, now: u64) -> Called
+    ensures { λ r. ⌜ Calls.outcome r ≡ Calls.timeout link now ⌝ }
+{
+    if !link.in_range() {
+        return refused(Answer::OutOfRange, link);
+    }
+    timeout_in_range(link, now)
 }

@@ -1,13 +1,15 @@
 // Document 01, pass file and program: the listing of a pass file, a line for each call of a link, written into a lent buffer.
 ghost use mathlib.Core.Path.{_≡_};
-ghost use mathlib.Core.List.{_∷_};
+ghost use mathlib.Core.Bool.{true};
 ghost use Prim.Native.Nat.{_+_, _*_, _≤_, _<_};
 ghost use lib.ListN.{length, set};
+ghost use Rattle.link_state.specs.State.{inRange};
 ghost use Rattle.link.specs.Link.{outcome, reply};
 ghost use Rattle.link_runs.specs.Statement as Runs;
 ghost use Rattle.pass_records.specs.PassRecords as Records;
 ghost use Rattle.pass_records.specs.declared.Judged.the-variants.{Linked};
-ghost use Rattle.listing_line.specs.ListingLine.{putLine, placeAfter, Wrote};
+ghost use lib.Ieee.{binary64, toBits};
+ghost use Rattle.listing_line.specs.ListingLine.{line, putLine, placeAfter, Wrote};
 ghost use Rattle.pass_file.specs.PassFile as PassFile;
 use acked_bitrate_estimator::AckedBitrateEstimator;
 use bandwidth::BandwidthUsage;
@@ -35,12 +37,6 @@ pub enum Listed {
     ShortOutput,
 }
 
-// The place after what was written, and the link handed back.
-struct Place {
-    at: usize,
-    link: Link,
-}
-
 // ---- a call
 fn open() -> Link
     ensures { λ r. ⌜ r ≡ PassFile.first ⌝ }
@@ -60,7 +56,7 @@ fn probe(file: &[u8], k: usize) -> OptionBitrate
     OptionBitrate::None
 }
 
-// The call of record k: a report of the packets given, or a timeout.
+// The call of record k: a report of the packets given, or a timeout. A link that a run reaches is in range, so question 1 is not put.
 fn call(
     file: &[u8],
     k: usize,
@@ -71,6 +67,7 @@ fn call(
     receives: &[u64],
     link: Link,
 ) -> Called
+    requires { ⌜ inRange link ≡ true ⌝ }
     ensures { λ r. ⌜ outcome r ≡ Runs.call link (PassFile.callOf (now (file .entry)) k (now (sequences .entry)) (now (sizes .entry)) (now (sends .entry)) (now (remotes .entry)) (now (receives .entry))) ⌝ }
 {
     let now = pass_records::receive(file, k);
@@ -78,7 +75,7 @@ fn call(
         let probe = probe(file, k);
         return link::report(link, sequences, sizes, sends, remotes, receives, probe, now);
     }
-    link::timeout(link, now)
+    link::timeout_in_range(link, now)
 }
 
 // ---- its line
@@ -107,24 +104,21 @@ fn letter(hypothesis: BandwidthUsage) -> u8
     }
 }
 
-fn put_called(out: &mut [u8], at: usize, k: usize, called: Called) -> Place
-    ensures { λ r. ⌜ now (out .exit) ≡ putLine (now (out .entry)) at (PassFile.shown k (outcome called)) ⌝ }
-    ensures { λ r. ⌜ (r .at ≡ placeAfter (now (out .entry)) at (PassFile.shown k (outcome called))) × (r .link ≡ called .link) ⌝ }
+// The line of record k, from the number that its call got and the link's controller after it.
+fn put_called(out: &mut [u8], at: usize, k: usize, number: u64, control: DelayController) -> usize
+    ensures { λ r. ⌜ now (out .exit) ≡ putLine (now (out .entry)) at (line k number (PassFile.letter (control .«trendline_estimator» .hypothesis)) (toBits binary64 (control .«rate_control» .«estimated_bitrate» .0)) (control .«next_timeout»)) ⌝ }
+    ensures { λ r. ⌜ r ≡ placeAfter (now (out .entry)) at (line k number (PassFile.letter (control .«trendline_estimator» .hypothesis)) (toBits binary64 (control .«rate_control» .«estimated_bitrate» .0)) (control .«next_timeout»)) ⌝ }
 {
-    let answer = called.answer;
-    let link = called.link;
-    let control = link.control;
     let bits = float_bits::to_bits(control.last_estimate().as_f64());
-    let end = listing_line::put_line(
+    listing_line::put_line(
         out,
         at,
         k as u64,
-        refusal(answer),
+        number,
         letter(control.hypothesis()),
         bits,
         control.poll_timeout(),
-    );
-    Place { at: end, link }
+    )
 }
 
 // ---- the packets that wait
@@ -201,9 +195,10 @@ fn list_chain(
                 &receives[0..n],
                 link,
             );
-            let place = put_called(out, at, k, called);
-            at = place.at;
-            link = place.link;
+            let answer = called.answer;
+            link = called.link;
+            let control = link.control;
+            at = put_called(out, at, k, refusal(answer), control);
             if pass_records::kind(file, k) == pass_records::REPORT {
                 n = 0;
             }
