@@ -64,27 +64,6 @@ fn root54(m: u64) -> u64
     q
 }
 
-// IEEE 754's square root.
-pub fn sqrt(x: f64) -> f64
-    ensures { λ r. ⌜ r ≡ sqrt x ⌝ }
-{
-    if x != x {
-        return x;
-    }
-    if x == 0.0 {
-        return x;
-    }
-    if x < 0.0 {
-        return 0.0 / 0.0;
-    }
-    let b = f64::to_bits(x);
-    if b == 0x7ff0_0000_0000_0000 {
-        return x;
-    }
-    let r = root_at(b);
-    f64::from_bits(r.base + (root54(r.big) + 1) / 2)
-}
-
 // s * s without its low 54 binary digits, from the halves of s.
 fn square_high(s: u64) -> u64
     requires { ⌜ s < 2 ^ 54 ⌝ }
@@ -108,6 +87,65 @@ fn has_bits(r: Root, b: u64) -> bool
         return false;
     }
     (square_high(2 * q - 1) < r.big) & (r.big <= square_high(2 * q + 1))
+}
+
+// Newton's step from y towards 1 / √x, where h is x / 2.
+fn newton(h: f64, y: f64) -> f64 {
+    y * (1.5 - h * y * y)
+}
+
+// A guess at the pattern of x's root, from x's own pattern b; nothing is proved of it. Half of b, taken from a constant, is near the pattern
+// of 1 / √x. Three steps from there and one towards √x itself mostly end at the root or a neighbour of it, though seldom where x is subnormal.
+fn guess(x: f64, b: u64) -> u64
+    requires { ⌜ b < 2047 * 2 ^ 52 ⌝ }
+{
+    let h = 0.5 * x;
+    let start = f64::from_bits(0x5fe6_eb50_c7b5_37a9 - b / 2);
+    let near = x * newton(h, newton(h, newton(h, start)));
+    let g = 0.5 * (near + x / near);
+    if g != g {
+        return 0;
+    }
+    f64::to_bits(g)
+}
+
+// The root's pattern: the guess c or a neighbour of it, if the test finds it to be the root's, and else digit by digit.
+fn root_bits(r: Root, c: u64) -> u64
+    requires { ⌜ Sized (r .big) (r .base) ⌝ }
+    ensures { λ t. ⌜ t ≡ rootBits (r .big) (r .base) ⌝ }
+{
+    if has_bits(r, c) {
+        return c;
+    }
+    let below = std::num::wrapping_sub_u64(c, 1);
+    if has_bits(r, below) {
+        return below;
+    }
+    let above = std::num::wrapping_add_u64(c, 1);
+    if has_bits(r, above) {
+        return above;
+    }
+    r.base + (root54(r.big) + 1) / 2
+}
+
+// IEEE 754's square root.
+pub fn sqrt(x: f64) -> f64
+    ensures { λ r. ⌜ r ≡ sqrt x ⌝ }
+{
+    if x != x {
+        return x;
+    }
+    if x == 0.0 {
+        return x;
+    }
+    if x < 0.0 {
+        return 0.0 / 0.0;
+    }
+    let b = f64::to_bits(x);
+    if b == 0x7ff0_0000_0000_0000 {
+        return x;
+    }
+    f64::from_bits(root_bits(root_at(b), guess(x, b)))
 }
 
 // Rust's `d == v.sqrt()`, by exact products: no loop, and no root taken.

@@ -1,13 +1,13 @@
 -- `sqrt::sqrt` meets its contract: each test sends one kind of float on (`Cases.antt`).
-use mathlib.Core.Path.{sym, ap, subst, _∙_}
+use mathlib.Core.Path.{sym, ap, _∙_}
 use native.Mathlib.Omega.{arith}
-use lib.Dec.{T}
 use lib.Ieee.{binary64}
 use lib.Ieee.Bits.{ofBits-toBits}
 use Rattle.sqrt.specs.Sqrt.{sqrt}
 use Rattle.sqrt.proofs.Cases.{at-nan, root-of-nan, at-zero, at-below, zero-by-zero, at-infinity, no-nan, in-range}
 use Rattle.sqrt.proofs.Units.{digits}
 use Rattle.float_order.specs.Bits.{no-nan-bits}
+use Rattle.float_order.specs.Order.{is-true}
 use borrow.Author.Needs.{needs}
 use Rattle.sqrt.proofs.sqrt.Statement.{statement}
 use Rattle.sqrt.proofs.sqrt.Tie as tie
@@ -32,21 +32,18 @@ root-at-requires c κs =
     let start = c .before .before .before .before in
     in-range (start .args .x) (start .good .0 .1) (c .before .before .before .if1 .left) (c .before .before .if2 .left) (c .before .if3 .left) (c .if4 .left)
 
-add-result : tie.Need-add-result
-add-result c =
-    let r = c .before .root-at .result in
-    omega (arith, c .root54 .ensures, digits (r .big) (r .base) (c .before .root-at .ensures .0) .1)
+guess-requires : tie.Need-guess-requires
+guess-requires c κs = root-at-requires (c .before) κs .1
 
 float-from-bits-result : tie.Need-float-from-bits-result
 float-from-bits-result c =
-    let r = c .before .before .root-at .result in
-    let s = c .before .before .root-at .ensures .0 in
-    no-nan-bits _ (omega (arith, c .before .root54 .ensures, s .small, digits (r .big) (r .base) s .1))
+    let root = c .before .before .root-at in
+    no-nan-bits _ (omega (arith, c .root-bits .ensures, root .ensures .0 .small, digits (root .result .big) (root .result .base) (root .ensures .0) .1))
 
 returns-5 : tie.Need-returns-5
 returns-5 c =
     let start = c .before .before .before .before .before .before .before in
-    rw (c .before .root54 .ensures) (sym (c .before .before .root-at .ensures .1) ∙ ap sqrt (ofBits-toBits binary64 (start .args .x) (subst T (sym (start .good .0 .1)) tt)))
+    rw (c .root-bits .ensures) (sym (c .before .before .root-at .ensures .1) ∙ ap sqrt (ofBits-toBits binary64 (start .args .x) (is-true _ (start .good .0 .1))))
 
 pub sqrt-spec : {M : Type 1} → statement M
 sqrt-spec =
@@ -58,8 +55,7 @@ sqrt-spec =
     float-to-bits-b
     returns-4
     root-at-requires
+    guess-requires
     (λ c κs. search needs)
-    add-result
-    (λ c. search needs)
     float-from-bits-result
     returns-5)
