@@ -73,7 +73,7 @@ fn call(
     let now = pass_records::receive(file, k);
     if pass_records::kind(file, k) == pass_records::REPORT {
         let probe = probe(file, k);
-        return link::report(link, sequences, sizes, sends, remotes, receives, probe, now);
+        return link::report_in_range(link, sequences, sizes, sends, remotes, receives, probe, now);
     }
     link::timeout_in_range(link, now)
 }
