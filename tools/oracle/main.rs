@@ -2,6 +2,7 @@
 //!
 //!     oracle make MODULE SEED COUNT     cases with the Rust's answers, to standard output
 //!     oracle distance A B               how far the first answers (floats) of two files of cases lie apart
+//!     oracle listings A B               the same of two files of pass files with their listings
 //!     oracle demand3 SEED COUNT         looks for a list of calls that breaks demand 3
 //!     oracle zero_sizes SIZE            the user's failure: the first half second's packets have this size
 //!     oracle entries                    how far the growth table lies from this machine's `powf`
@@ -91,6 +92,7 @@ fn main() {
     match words.get(1).map(String::as_str) {
         Some("make") if words.len() == 5 => make::make(&words[2], words[3].parse().unwrap(), words[4].parse().unwrap()),
         Some("distance") if words.len() == 4 => distance::distance(&words[2], &words[3]),
+        Some("listings") if words.len() == 4 => distance::listings(&words[2], &words[3]),
         Some("demand3") if words.len() == 4 => demand3::demand3(words[2].parse().unwrap(), words[3].parse().unwrap()),
         Some("zero_sizes") if words.len() == 3 => bwe::link::zero_sizes(words[2].parse().unwrap()),
         Some("entries") if words.len() == 2 => distance::entries(),
@@ -99,7 +101,7 @@ fn main() {
         #[cfg(bench)]
         Some("bench") if words.len() == 3 => bench::bench(words[2].parse().unwrap()),
         _ => {
-            eprintln!("usage: oracle make MODULE SEED COUNT | distance A B | demand3 SEED COUNT | zero_sizes SIZE | entries | passes SEED COUNT SIZE | list");
+            eprintln!("usage: oracle make MODULE SEED COUNT | distance A B | listings A B | demand3 SEED COUNT | zero_sizes SIZE | entries | passes SEED COUNT SIZE | list");
             std::process::exit(2);
         }
     }
