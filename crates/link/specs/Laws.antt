@@ -1,5 +1,6 @@
 -- Laws of a link's calls: what they give where a question is the first that is answered with no, and where none is.
--- Of question k, nk says that its answer is no, yk that it is yes.
+-- Of question k, nk says that its answer is no, yk that it is yes. What is said of the questions after the first is said of the call without question 1;
+-- of a link in range that is the call itself.
 use Prim.Native.Nat.{ℕ, _≤_}
 use native.Mathlib.Omega.{arith}
 use mathlib.Core.Path.{_≡_, refl, _∙_}
@@ -31,12 +32,14 @@ use Rattle.link.specs.Link.{
   processedUnsorted,
   refusedBy,
   report,
+  reportInRange,
   reportQuestions,
   sizesIn,
   startIn,
   sumsIn,
   timedOut,
   timeout,
+  timeoutInRange,
   timeoutQuestions,
   turnedDown,
   updated,
@@ -109,41 +112,44 @@ module _ (l : Link) (r : Report) where
   unfolding report reportQuestions firstNo outcomeUnless
   report-1 n1 = rw n1
 
-  module _ (y1 : inRange l ≡ true) where
-    pub report-4 : listsIn (r .sequences) (r .sizes) (r .sends) (r .remotes) (r .receives) ≡ false → report l r ≡ refusedBy 4 l
-    unfolding report reportQuestions firstNo outcomeUnless
-    report-4 n4 = rw (y1, n4)
+  pub report-in-range : inRange l ≡ true → reportInRange l r ≡ report l r
+  unfolding report reportInRange reportQuestions firstNo
+  report-in-range y1 = rw y1
 
-    module _ (y4 : listsIn (r .sequences) (r .sizes) (r .sends) (r .remotes) (r .receives) ≡ true) where
-      pub report-5 : instantsIn (r .sends) (r .remotes) (r .receives) ≡ false → report l r ≡ refusedBy 5 l
-      unfolding report reportQuestions firstNo outcomeUnless
-      report-5 n5 = rw (y1, y4, n5)
+  pub report-4 : listsIn (r .sequences) (r .sizes) (r .sends) (r .remotes) (r .receives) ≡ false → reportInRange l r ≡ refusedBy 4 l
+  unfolding reportInRange reportQuestions firstNo outcomeUnless
+  report-4 n4 = rw n4
 
-      module _ (y5 : instantsIn (r .sends) (r .remotes) (r .receives) ≡ true) where
-        pub report-6 : sizesIn (r .sizes) ≡ false → report l r ≡ refusedBy 6 l
-        unfolding report reportQuestions firstNo outcomeUnless
-        report-6 n6 = rw (y1, y4, y5, n6)
+  module _ (y4 : listsIn (r .sequences) (r .sizes) (r .sends) (r .remotes) (r .receives) ≡ true) where
+    pub report-5 : instantsIn (r .sends) (r .remotes) (r .receives) ≡ false → reportInRange l r ≡ refusedBy 5 l
+    unfolding reportInRange reportQuestions firstNo outcomeUnless
+    report-5 n5 = rw (y4, n5)
 
-        module _ (y6 : sizesIn (r .sizes) ≡ true) where
-          pub report-7 : momentIn (r .now) ≡ false → report l r ≡ refusedBy 7 l
-          unfolding report reportQuestions firstNo outcomeUnless
-          report-7 n7 = rw (y1, y4, y5, y6, n7)
+    module _ (y5 : instantsIn (r .sends) (r .remotes) (r .receives) ≡ true) where
+      pub report-6 : sizesIn (r .sizes) ≡ false → reportInRange l r ≡ refusedBy 6 l
+      unfolding reportInRange reportQuestions firstNo outcomeUnless
+      report-6 n6 = rw (y4, y5, n6)
 
-          module _ (y7 : momentIn (r .now) ≡ true) where
-            pub report-8 : probeIn (r .probe) ≡ false → report l r ≡ refusedBy 8 l
-            unfolding report reportQuestions firstNo outcomeUnless
-            report-8 n8 = rw (y1, y4, y5, y6, y7, n8)
+      module _ (y6 : sizesIn (r .sizes) ≡ true) where
+        pub report-7 : momentIn (r .now) ≡ false → reportInRange l r ≡ refusedBy 7 l
+        unfolding reportInRange reportQuestions firstNo outcomeUnless
+        report-7 n7 = rw (y4, y5, y6, n7)
 
-            module _ (y8 : probeIn (r .probe) ≡ true) where
-              pub report-processed : report l r ≡ processedUnsorted l r
-              unfolding report processed reportQuestions firstNo
-              report-processed = rw (y1, y4, y5, y6, y7, y8)
+        module _ (y7 : momentIn (r .now) ≡ true) where
+          pub report-8 : probeIn (r .probe) ≡ false → reportInRange l r ≡ refusedBy 8 l
+          unfolding reportInRange reportQuestions firstNo outcomeUnless
+          report-8 n8 = rw (y4, y5, y6, y7, n8)
 
-              pub report-9 : sumsIn (l .acked) (inOrder r (r .remotes)) (inOrder r (r .sizes)) ≡ false → report l r ≡ refusedBy 9 l
-              report-9 n9 = report-processed ∙ processed-9 l _ _ _ _ _ _ n9
+          module _ (y8 : probeIn (r .probe) ≡ true) where
+            pub report-processed : reportInRange l r ≡ processedUnsorted l r
+            unfolding reportInRange processed reportQuestions firstNo
+            report-processed = rw (y4, y5, y6, y7, y8)
 
-              pub report-yes : sumsIn (l .acked) (inOrder r (r .remotes)) (inOrder r (r .sizes)) ≡ true → report l r ≡ acceptedWith (updated l r)
-              report-yes y9 = report-processed ∙ processed-yes l _ _ _ _ _ _ y9
+            pub report-9 : sumsIn (l .acked) (inOrder r (r .remotes)) (inOrder r (r .sizes)) ≡ false → reportInRange l r ≡ refusedBy 9 l
+            report-9 n9 = report-processed ∙ processed-9 l _ _ _ _ _ _ n9
+
+            pub report-yes : sumsIn (l .acked) (inOrder r (r .remotes)) (inOrder r (r .sizes)) ≡ true → reportInRange l r ≡ acceptedWith (updated l r)
+            report-yes y9 = report-processed ∙ processed-yes l _ _ _ _ _ _ y9
 
 -- ---- timeout
 module _ (l : Link) (now : ℕ) where
@@ -151,11 +157,14 @@ module _ (l : Link) (now : ℕ) where
   unfolding timeout timeoutQuestions firstNo outcomeUnless
   timeout-1 n1 = rw n1
 
-  module _ (y1 : inRange l ≡ true) where
-    pub timeout-7 : momentIn now ≡ false → timeout l now ≡ refusedBy 7 l
-    unfolding timeout timeoutQuestions firstNo outcomeUnless
-    timeout-7 n7 = rw (y1, n7)
+  pub timeout-in-range : inRange l ≡ true → timeoutInRange l now ≡ timeout l now
+  unfolding timeout timeoutInRange timeoutQuestions firstNo
+  timeout-in-range y1 = rw y1
 
-    pub timeout-yes : momentIn now ≡ true → timeout l now ≡ acceptedWith (timedOut l now)
-    unfolding timeout timeoutQuestions firstNo outcomeUnless
-    timeout-yes y7 = rw (y1, y7)
+  pub timeout-7 : momentIn now ≡ false → timeoutInRange l now ≡ refusedBy 7 l
+  unfolding timeoutInRange timeoutQuestions firstNo outcomeUnless
+  timeout-7 n7 = rw n7
+
+  pub timeout-yes : momentIn now ≡ true → timeoutInRange l now ≡ acceptedWith (timedOut l now)
+  unfolding timeoutInRange timeoutQuestions firstNo outcomeUnless
+  timeout-yes y7 = rw y7

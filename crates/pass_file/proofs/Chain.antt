@@ -7,23 +7,27 @@ use native.Mathlib.Nat.{sub-zero}
 use native.Mathlib.Omega.{arith}
 use lib.Dec.{eqb, ltb, leb}
 use lib.ListN.{length, set, take, drop, length-append, length-set, length-take, length-map}
+use lib.Ieee.{binary64, toBits}
 use lib.Seq.{sets, length-sets, length-take-le, sets-eq, set-out, take-all, take-append-le, take-nil, take-suc-set}
 use borrow.Author.Tests.{eq-eqb, ne-eqb, lt-leb, leb-true, leb-false, ltb-true, ltb-false}
 use Rattle.trendline.specs.Cases.{cases}
 use Rattle.link_state.specs.State.{inRange}
 use Rattle.link_state.specs.declared.Link.{Link}
 use Rattle.link.specs.Link as L
-use Rattle.link.specs.Link.{Report, listsIn, outcome, report-of}
-use Rattle.link.specs.Laws.{report-1, report-4}
+use Rattle.link.specs.Link.{Report, estimate, hypothesis, listsIn, nextTimeout, outcome, reply, report-of}
+use Rattle.link.specs.Laws.{report-4, report-in-range}
 use Rattle.link.specs.declared.Called.{Called}
 use Rattle.link_runs.specs.Statement.{call, report, timeout}
+use Rattle.link_runs.specs.Good.{Good, call-good}
+use Rattle.link_runs.specs.InRange.{good-in-range}
 use Rattle.pass_records.specs.declared.Following.{Following}
 use Rattle.pass_records.specs.PassRecords as Records
 use Rattle.pass_records.specs.Laws.{chain-step}
 use Rattle.pass_records.specs.PassRecords.{chainFrom, follows, kind, onward, receive, remote, send, sequence, size}
-use Rattle.listing_line.specs.ListingLine.{Wrote, placeAfter, putLine}
+use Rattle.listing_line.specs.ListingLine.{Wrote, line, placeAfter, putLine}
 use Rattle.listing_line.specs.Laws.{put-room, sets-append}
-use Rattle.pass_file.specs.PassFile.{KeptLengths, callAt, callOf, calls, first, lines, listing, mostWaiting, oneMore, probe, shown}
+use Rattle.pass_file.specs.PassFile.{KeptLengths, callAt, callOf, calls, first, letter, lines, listing, mostWaiting, oneMore, probe, refusal, shown}
+use Rattle.pass_file.specs.Laws.{first-good}
 
 -- ---- the text that is left
 -- of the text `whole`, which goes to the start of `old`, the part `rest` is yet to be written, at place `at` of `new`
@@ -119,16 +123,13 @@ unfolding listsIn
 too-many sequences sizes sends remotes receives h = rw (lt-leb (length sequences) 1024 h, and-false)
 
 -- two reports with too many packets are refused alike
-refused-alike : (l : Link) (r s : Report) → 1024 < length (r .sequences) → 1024 < length (s .sequences) → L.report l r ≡ L.report l s
-refused-alike l r s h i = go (inRange l) refl
-  where
-    go : (t : Bool) → inRange l ≡ t → L.report l r ≡ L.report l s
-    go true y1 = report-4 l r y1 (too-many _ _ _ _ _ h) ∙ sym (report-4 l s y1 (too-many _ _ _ _ _ i))
-    go false n1 = report-1 l r n1 ∙ sym (report-1 l s n1)
+refused-alike : (l : Link) (r s : Report) → inRange l ≡ true → 1024 < length (r .sequences) → 1024 < length (s .sequences) → L.report l r ≡ L.report l s
+refused-alike l r s y1 h i =
+    sym (report-in-range l r y1) ∙ report-4 l r (too-many _ _ _ _ _ h) ∙ sym (report-4 l s (too-many _ _ _ _ _ i)) ∙ report-in-range l s y1
 
 -- the packets that are not kept change no answer
-kept-enough : (l : Link) (file : List ℕ) (k : ℕ) (waiting : List ℕ) → call l (callAt file k (take mostWaiting waiting)) ≡ call l (callAt file k waiting)
-kept-enough l file k waiting = go (leb (length waiting) mostWaiting) refl
+kept-enough : (l : Link) → inRange l ≡ true → (file : List ℕ) (k : ℕ) (waiting : List ℕ) → call l (callAt file k (take mostWaiting waiting)) ≡ call l (callAt file k waiting)
+kept-enough l y1 file k waiting = go (leb (length waiting) mostWaiting) refl
   where
     reported : List ℕ → Report
     reported ws = report-of (map (sequence file) ws) (map (size file) ws) (map (send file) ws) (map (remote file) ws) (map (receive file) ws) (probe file k) (receive file k)
@@ -143,7 +144,7 @@ kept-enough l file k waiting = go (leb (length waiting) mostWaiting) refl
     go false h =
         let many = leb-false (length waiting) mostWaiting h in
         same (eqb (kind file k) Records.report)
-        (refused-alike l (reported (take mostWaiting waiting)) (reported waiting)
+        (refused-alike l (reported (take mostWaiting waiting)) (reported waiting) y1
         (simp (length-map, length-take-le mostWaiting waiting (omega arith)) (omega arith))
         (simp length-map (omega arith)))
 
@@ -152,15 +153,16 @@ kept-part {n = n} {list = list} p = ap (λ (j : ℕ). take j list) (sub-zero n) 
 
 -- the call with the lists that keep them is the call with all that wait
 kept-call :
-    {file waiting sequences sizes sends remotes receives : List ℕ} {n : ℕ} (l : Link) (k : ℕ) → Kept file waiting n sequences sizes sends remotes receives
+    {file waiting sequences sizes sends remotes receives : List ℕ} {n : ℕ} (l : Link) (k : ℕ) → inRange l ≡ true → Kept file waiting n sequences sizes sends remotes receives
     → call l (callOf file k (take (n - 0) sequences) (take (n - 0) sizes) (take (n - 0) sends) (take (n - 0) remotes) (take (n - 0) receives)) ≡ call l (callAt file k waiting)
-kept-call {file} {waiting} l k p =
-    rw (kept-part (p .sequences-kept), kept-part (p .sizes-kept), kept-part (p .sends-kept), kept-part (p .remotes-kept), kept-part (p .receives-kept)) (kept-enough l file k waiting)
+kept-call {file} {waiting} l k y1 p =
+    rw (kept-part (p .sequences-kept), kept-part (p .sizes-kept), kept-part (p .sends-kept), kept-part (p .remotes-kept), kept-part (p .receives-kept)) (kept-enough l y1 file k waiting)
 
 -- ---- the lines that are left
--- the lines of the records ks are left to write, and the lists keep the packets that wait for them
+-- the lines of the records ks are left to write, the lists keep the packets that wait for them, and the link is good
 pub record Progress (file old ks out sequences sizes sends remotes receives : List ℕ) (link : Link) (n at : ℕ) : Type 0 where
   pub waiting : List ℕ
+  pub good : Good link
   pub kept : Kept file waiting n sequences sizes sends remotes receives
   pub fits : length (listing file) ≤ length old
   pub size : length out ≡ length old
@@ -177,6 +179,14 @@ module _ (file waiting ks : List ℕ) (k : ℕ) where
   unfolding calls lines
   lines-call l h = rw (ne-eqb (kind file k) Records.packet h)
 
+-- the line of record k, whose call was refused by this question or by none, and left this link
+abbrev lineAfter : ℕ → ℕ → Link → List ℕ
+lineAfter k refused l = line k refused (letter (hypothesis l)) (toBits binary64 (estimate l)) (nextTimeout l)
+
+shown-line : (k : ℕ) (c : Called) {refused : ℕ} → refused ≡ refusal (reply (c .answer)) → lineAfter k refused (c .link) ≡ shown k (outcome c)
+unfolding shown
+shown-line k c e = rw e
+
 -- no line has been written
 pub starts : {file out sequences sizes sends remotes receives : List ℕ} {link : Link} → length (listing file) ≤ length out
     → KeptLengths sequences sizes sends remotes receives → link ≡ first
@@ -186,6 +196,7 @@ starts f h e =
     rw e
     (record {
       waiting = [];
+      good = first-good;
       kept = none-kept h;
       fits = f;
       size = refl;
@@ -227,6 +238,7 @@ module _ {file old ks out sequences sizes sends remotes receives : List ℕ} {li
       → Progress file old ks out sequences₁ sizes₁ sends₁ remotes₁ receives₁ link next at
   joined {k = k} h p e a b c d f = record {
     waiting = p .waiting ++ (k ∷ []);
+    good = p .good;
     kept = one-more-kept k (p .kept) e a b c d f;
     fits = p .fits;
     size = p .size;
@@ -234,19 +246,22 @@ module _ {file old ks out sequences sizes sends remotes receives : List ℕ} {li
   }
 
   -- a call is made, and its line written
-  pub called : {new : List ℕ} {after : Link} {k next place : ℕ} (c : Called) → (kind file k ≡ Records.packet → ⊥)
+  pub called : {new : List ℕ} {k next place refused : ℕ} (c : Called) → (kind file k ≡ Records.packet → ⊥)
       → Progress file old (k ∷ ks) out sequences sizes sends remotes receives link n at
       → outcome c ≡ call link (callOf file k (take (n - 0) sequences) (take (n - 0) sizes) (take (n - 0) sends) (take (n - 0) remotes) (take (n - 0) receives))
-      → new ≡ putLine out at (shown k (outcome c)) → place ≡ placeAfter out at (shown k (outcome c)) → after ≡ c .link
+      → refused ≡ refusal (reply (c .answer))
+      → new ≡ putLine out at (lineAfter k refused (c .link)) → place ≡ placeAfter out at (lineAfter k refused (c .link))
       → next ≡ cond (eqb (kind file k) Records.report) 0 n
-      → Progress file old ks new sequences sizes sends remotes receives after next place
-  called {k = k} c h p e a b d f =
-      let o : outcome c ≡ call link (callAt file k (p .waiting)) = e ∙ kept-call link k (p .kept) in
+      → Progress file old ks new sequences sizes sends remotes receives (c .link) next place
+  called {k = k} c h p e r a b f =
+      let o : outcome c ≡ call link (callAt file k (p .waiting)) = e ∙ kept-call link k (good-in-range link (p .good)) (p .kept) in
+      let s = shown-line k c r in
       let l = rw (lines-call file (p .waiting) ks k link h, ← o) at (p .left) in
       let w = put-room out at (shown k (outcome c)) (omega (arith, p .fits, p .size, simp length-append at (l .after))) in
-      rw (a, b, d, f)
+      rw (a, b, f, s)
       (record {
         waiting = cond (eqb (kind file k) Records.report) [] (p .waiting);
+        good = rw (← o) at (call-good link (callAt file k (p .waiting)) (p .good));
         kept = kept-after (eqb (kind file k) Records.report) (p .kept);
         fits = p .fits;
         size = ap length (w .bytes) ∙ length-sets out at (shown k (outcome c)) ∙ p .size;

@@ -1,6 +1,6 @@
 -- The listing of document 01's example, computed from the definitions.
 use Prim.Native.Char.{code}
-use mathlib.Core.Path.{_≡_, refl, ap, subst, _∙_}
+use mathlib.Core.Path.{_≡_, refl, ap, subst, sym, _∙_}
 use mathlib.Core.Bool.{true}
 use mathlib.Core.List.{[], _∷_, _++_}
 use lib.Ieee.{binary64, ofBits, toBits}
@@ -17,7 +17,7 @@ use Rattle.control.specs.Control as Control
 use Rattle.link_state.specs.State.{inRange}
 use Rattle.link_state.specs.declared.Link.{Link}
 use Rattle.link.specs.Link.{Outcome, Report, acceptedWith, every, instantsIn, listsIn, momentIn, probeIn, report-of, sumsIn, timedOut, updated, updatedBy}
-use Rattle.link.specs.Laws.{timeout-yes, report-yes}
+use Rattle.link.specs.Laws.{report-in-range, report-yes, timeout-in-range, timeout-yes}
 use Rattle.link_runs.specs.Statement.{call, report, timeout}
 use Rattle.link_runs.specs.InRange.{reached-in-range}
 use Rattle.pass_records.specs.Rows.{example, example-linked, example-chain}
@@ -45,7 +45,9 @@ abbrev second : Link
 second = timedOut first 1000000000
 
 timeout-taken : call first (timeout 1000000000) ≡ acceptedWith second
-timeout-taken = timeout-yes first 1000000000 (reached-in-range (bps 1000000) 500000000 150000000 first first-opened []) (unfold momentIn in refl)
+timeout-taken =
+    sym (timeout-in-range first 1000000000 (reached-in-range (bps 1000000) 500000000 150000000 first first-opened []))
+    ∙ timeout-yes first 1000000000 (unfold momentIn in refl)
 
 second-in-range : inRange second ≡ true
 unfolding acceptedWith
@@ -57,7 +59,8 @@ second-in-range =
 
 report-taken : call second (report probed) ≡ acceptedWith (updated second probed)
 report-taken =
-    report-yes second probed second-in-range
+    sym (report-in-range second probed second-in-range)
+    ∙ report-yes second probed
     (unfold listsIn in refl)
     (unfold instantsIn every in refl)
     (unfold every in refl)

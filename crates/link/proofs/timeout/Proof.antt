@@ -1,45 +1,16 @@
--- The three answers of the definition.
-use Prim.Native.Nat.{ℕ}
-use mathlib.Core.Path.{_≡_, sym, _∙_}
-use mathlib.Core.Bool.{true}
+-- Question 1, then the others.
+use mathlib.Core.Path.{sym, _∙_}
 use borrow.Author.Needs.{needs}
-use Rattle.bandwidth.specs.declared.OptionBitrate.{OptionBitrate}
-use Rattle.control.specs.Control as Control
-use Rattle.control.specs.declared.DelayController.{DelayController}
-use Rattle.link_state.specs.State.{inRange}
-use Rattle.link_state.specs.declared.Link.{Link}
-use Rattle.link.specs.Link.{acceptedWith, momentIn, timedOut, timeout}
-use Rattle.link.specs.Laws.{timeout-1, timeout-7, timeout-yes}
+use Rattle.link.specs.Laws.{timeout-1, timeout-in-range}
 use Rattle.link.proofs.Laws.{was-no, was-yes}
 use Rattle.link.proofs.timeout.Statement.{statement}
 use Rattle.link.proofs.timeout.Tie as tie
 
-module _ (l : Link) (now : ℕ) {rate : OptionBitrate} {control : DelayController} where
-  updates : rate ≡ l .acked .estimate → control ≡ Control.handleTimeout (l .control) rate now → inRange l ≡ true → momentIn now ≡ true
-      → acceptedWith (record { acked = l .acked; control = control }) ≡ timeout l now
-  unfolding timedOut
-  updates er ec y1 y7 = rw (ec, er) (sym (timeout-yes l now y1 y7))
-
 returns : tie.Need-returns
-returns c =
-    let q1 = c .before in
-    c .refused .ensures ∙ sym (timeout-1 _ _ (was-no (q1 .before .in-range .ensures) (q1 .if1 .taken)))
+returns c = c .refused .ensures ∙ sym (timeout-1 _ _ (was-no (c .before .before .in-range .ensures) (c .before .if1 .taken)))
 
 returns-2 : tie.Need-returns-2
-returns-2 c =
-    let q7 = c .before in
-    let q1 = q7 .before .before in
-    c .refused2 .ensures ∙ sym (timeout-7 _ _ (was-yes (q1 .before .in-range .ensures) (q1 .if1 .left)) (was-no (q7 .before .moment-in .ensures) (q7 .if2 .taken)))
-
-returns-3 : tie.Need-returns-3
-returns-3 c =
-    let q7 = c .before .before .before .before .before in
-    let q1 = q7 .before .before in
-    c .accepted .ensures
-    ∙ updates _ _ (c .before .before .current-estimate .ensures) (c .before .handle-timeout .ensures) (was-yes (q1 .before .in-range .ensures) (q1 .if1 .left))
-    (was-yes (q7 .before .moment-in .ensures) (q7 .if2 .left))
+returns-2 c = c .timeout-in-range .ensures ∙ timeout-in-range _ _ (was-yes (c .before .before .in-range .ensures) (c .before .if1 .left))
 
 pub timeout-spec : {M : Type 1} → statement M
-timeout-spec =
-    tie.close
-    (tie.spec (λ c κs. search needs) (λ c κs. search needs) returns (λ c κs. search needs) (λ c κs. search needs) returns-2 (λ c κs. search needs) (λ c κs. search needs) (λ c κs. search needs) returns-3)
+timeout-spec = tie.close (tie.spec (λ c κs. search needs) (λ c κs. search needs) returns (λ c κs. search needs) returns-2)

@@ -1,5 +1,5 @@
 -- `pass_file::list_chain` meets its contract. The loop's invariant: record k is on the linked chain, the lines from it on are left to write,
--- and the five lists keep the packets that wait.
+-- the five lists keep the packets that wait, and the link is good, so that it is in range for the next call.
 use Prim.Native.Nat.{_-_}
 use mathlib.Core.Path.{_≡_, sym, _∙_}
 use native.Mathlib.Omega.{arith}
@@ -8,6 +8,7 @@ use lib.ListN.{length}
 use mathlib.Core.Logic.{⊎-elim}
 use borrow.Author.Needs.{needs}
 use borrow.Author.Tests.{eq-eqb, ne-eqb}
+use Rattle.link_runs.specs.InRange.{good-in-range}
 use Rattle.pass_records.specs.PassRecords.{chainFrom, follows, onward}
 use Rattle.pass_records.specs.declared.Following.{Following}
 use Rattle.pass_records.specs.Laws.{OnChain, Followed, followed, linked-file, on-chain-next}
@@ -28,6 +29,9 @@ loop-holds c =
     let p = c .before .before .before .before .before .before .before .pre in
     rw (p .0 .1) (linked-file _ (p .0 .0) .first, starts (omega (arith, listing-of-run _ (p .0 .0) .most, p .0 .2)) (p .1) (p .0 .3))
 
+call-requires : tie.Need-call-requires Inv-loop μ-loop
+call-requires c κs = good-in-range _ (c .before .before .before .before .before .before .before .before .before .before .before .before .loop .inv .1 .good)
+
 -- ---- after a record, where the branches meet
 abbrev start : tie.Joined1 Inv-loop μ-loop → tie.Start Inv-loop μ-loop
 start c = c .before .before .before .before .before .before .before .before .before .before
@@ -47,13 +51,13 @@ passed c =
     (joined (sym (c .before .kind .ensures) ∙ w .0 .taken) p (e .0) (e .1 .0) (e .1 .1 .0) (e .1 .1 .1 .0) (e .1 .1 .1 .1 .0) (e .1 .1 .1 .1 .1)))
     (⊎-elim
     (λ w.
-    let e = w .13 .ensures in
-    same-progress (w .19) (w .20) (w .21) (w .22) (w .23) (w .24) (w .25) (w .26) (w .27)
-    (called (w .11 .result) (λ q. w .0 .left (c .before .kind .ensures ∙ q)) p (w .11 .ensures) (e .0) (e .1 .0) (e .1 .1) (rw (eq-eqb _ _ (sym (w .17 .ensures) ∙ w .18 .taken)))))
+    let e = w .16 .ensures in
+    same-progress (w .21) (w .22) (w .23) (w .24) (w .25) (w .26) (w .27) (w .28) (w .29)
+    (called (w .11 .result) (λ q. w .0 .left (c .before .kind .ensures ∙ q)) p (w .11 .ensures) (w .15 .ensures) (e .0) (e .1) (rw (eq-eqb _ _ (sym (w .19 .ensures) ∙ w .20 .taken)))))
     (λ w.
-    let e = w .13 .ensures in
-    same-progress (w .19) (w .20) (w .21) (w .22) (w .23) (w .24) (w .25) (w .26) (w .27)
-    (called (w .11 .result) (λ q. w .0 .left (c .before .kind .ensures ∙ q)) p (w .11 .ensures) (e .0) (e .1 .0) (e .1 .1) (rw (ne-eqb _ _ (λ q. w .18 .left (w .17 .ensures ∙ q)))))))
+    let e = w .16 .ensures in
+    same-progress (w .21) (w .22) (w .23) (w .24) (w .25) (w .26) (w .27) (w .28) (w .29)
+    (called (w .11 .result) (λ q. w .0 .left (c .before .kind .ensures ∙ q)) p (w .11 .ensures) (w .15 .ensures) (e .0) (e .1) (rw (ne-eqb _ _ (λ q. w .20 .left (w .19 .ensures ∙ q)))))))
     (c .if1 .came)
 
 -- every list has the length that it came with
@@ -100,4 +104,4 @@ returns-3 c = written (onto (c .before .before) _ (c .enum-told3 .given .1))
 pub list-chain-spec : {M : Type 1} → statement M
 list-chain-spec =
     tie.close
-    (tie.spec Inv-loop μ-loop loop-holds (λ c κs. search needs) (λ c κs. search needs) (λ c. search needs) (λ c. search needs) (λ c. search needs) (λ c. search needs) (λ c. search needs) (λ c. search needs) (λ c. search needs) (λ c. search needs) (λ c. search needs) (λ c. search needs) (λ c. search needs) (λ c. search needs) (λ c. search needs) (λ c. search needs) (λ c. search needs) (λ c κs. search needs) (λ c κs. search needs) (λ c κs. search needs) (λ c κs. search needs) (λ c. search needs) loop-less loop-again (λ c. search needs) (λ c. lengths (c .before .before .before) .0) (λ c. lengths (c .before .before .before) .1) (λ c. lengths (c .before .before .before) .2) (λ c. lengths (c .before .before .before) .3) (λ c. lengths (c .before .before .before) .4) (λ c. lengths (c .before .before .before) .5) returns (λ c. search needs) (λ c. lengths (c .before .before .before) .0) (λ c. lengths (c .before .before .before) .1) (λ c. lengths (c .before .before .before) .2) (λ c. lengths (c .before .before .before) .3) (λ c. lengths (c .before .before .before) .4) (λ c. lengths (c .before .before .before) .5) returns-2 (λ c. search needs) (λ c. lengths (c .before .before .before) .0) (λ c. lengths (c .before .before .before) .1) (λ c. lengths (c .before .before .before) .2) (λ c. lengths (c .before .before .before) .3) (λ c. lengths (c .before .before .before) .4) (λ c. lengths (c .before .before .before) .5) returns-3)
+    (tie.spec Inv-loop μ-loop loop-holds (λ c κs. search needs) (λ c κs. search needs) (λ c. search needs) (λ c. search needs) (λ c. search needs) (λ c. search needs) (λ c. search needs) (λ c. search needs) (λ c. search needs) (λ c. search needs) (λ c. search needs) (λ c. search needs) (λ c. search needs) (λ c. search needs) (λ c. search needs) (λ c. search needs) (λ c. search needs) call-requires (λ c κs. search needs) (λ c κs. search needs) (λ c κs. search needs) (λ c κs. search needs) (λ c. search needs) loop-less loop-again (λ c. search needs) (λ c. lengths (c .before .before .before) .0) (λ c. lengths (c .before .before .before) .1) (λ c. lengths (c .before .before .before) .2) (λ c. lengths (c .before .before .before) .3) (λ c. lengths (c .before .before .before) .4) (λ c. lengths (c .before .before .before) .5) returns (λ c. search needs) (λ c. lengths (c .before .before .before) .0) (λ c. lengths (c .before .before .before) .1) (λ c. lengths (c .before .before .before) .2) (λ c. lengths (c .before .before .before) .3) (λ c. lengths (c .before .before .before) .4) (λ c. lengths (c .before .before .before) .5) returns-2 (λ c. search needs) (λ c. lengths (c .before .before .before) .0) (λ c. lengths (c .before .before .before) .1) (λ c. lengths (c .before .before .before) .2) (λ c. lengths (c .before .before .before) .3) (λ c. lengths (c .before .before .before) .4) (λ c. lengths (c .before .before .before) .5) returns-3)

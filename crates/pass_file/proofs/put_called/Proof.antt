@@ -1,27 +1,21 @@
--- `pass_file::put_called` meets its contract: each part of the line is that of the link handed back.
-use mathlib.Core.Path.{refl}
+-- `pass_file::put_called` meets its contract: each part of the line is that of the controller.
 use borrow.Author.Needs.{needs}
-use Rattle.pass_file.specs.PassFile.{shown}
 use Rattle.pass_file.proofs.put_called.Statement.{statement}
 use Rattle.pass_file.proofs.put_called.Tie as tie
 
 returns : tie.Need-returns
-unfolding shown
 returns c =
-    let wrote =
     simp (
       c .before .before .before .poll-timeout .ensures,
       c .before .before .before .before .letter .ensures,
       c .before .before .before .before .before .hypothesis .ensures,
-      c .before .before .before .before .before .before .refusal .ensures,
-      c .before .before .before .before .before .before .before .before .to-bits .ensures,
-      c .before .before .before .before .before .before .before .before .before .as-f64 .ensures,
-      c .before .before .before .before .before .before .before .before .before .before .last-estimate .ensures,
+      c .before .before .before .before .before .before .before .to-bits .ensures,
+      c .before .before .before .before .before .before .before .before .as-f64 .ensures,
+      c .before .before .before .before .before .before .before .before .before .last-estimate .ensures,
     )
-    at (c .before .before .put-line .ensures) in
-    (wrote .0, (wrote .1, refl))
+    at (c .before .before .put-line .ensures)
 
 pub put-called-spec : {M : Type 1} → statement M
 put-called-spec =
     tie.close
-    (tie.spec (λ c κs. search needs) (λ c κs. search needs) (λ c κs. search needs) (λ c κs. search needs) (λ c κs. search needs) (λ c κs. search needs) (λ c κs. search needs) (λ c κs. search needs) (λ c. search needs) returns)
+    (tie.spec (λ c κs. search needs) (λ c κs. search needs) (λ c κs. search needs) (λ c κs. search needs) (λ c κs. search needs) (λ c κs. search needs) (λ c κs. search needs) (λ c. search needs) returns)
