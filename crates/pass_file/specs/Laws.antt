@@ -4,7 +4,7 @@ use mathlib.Core.Path.{_≡_, refl, sym}
 use mathlib.Core.Bool.{Bool, true, false, cond}
 use mathlib.Core.List.{List, [], _∷_, _++_, map, append-assoc}
 use native.Mathlib.Omega.{arith}
-use lib.Dec.{eqb}
+use lib.Dec.{eqb, leb}
 use lib.Ieee.{binary64, toBits}
 use lib.ListN.{length, length-append}
 use Rattle.float_order.specs.Range.{In, nat}
@@ -33,11 +33,13 @@ use Rattle.link_runs.specs.Statement.{Call, call, report, timeout, run}
 use Rattle.link_runs.specs.Good.{Good, call-good, run-good, opening-good}
 use Rattle.link_runs.specs.Demand3.{demand-3}
 use Rattle.pass_records.specs.PassRecords as Records
-use Rattle.pass_records.specs.PassRecords.{chain, judge, kind, mostRecords, recordCount}
+use Rattle.pass_records.specs.PassRecords.{chain, judge, kind, mostRecords, number, recordCount}
 use Rattle.pass_records.specs.Laws.{Rising, linked-file}
-use Rattle.pass_records.specs.declared.Judged.the-variants.{Linked}
+use Rattle.pass_records.specs.declared.Judged.{Judged}
+use Rattle.pass_records.specs.declared.Judged.the-variants.{Linked, BadLength, BadKind, BadNext}
 use Rattle.listing_line.specs.Laws.{line-short}
-use Rattle.pass_file.specs.PassFile.{Numbered, calls, first, letter, lines, listing, refusal, shown}
+use Rattle.pass_file.specs.PassFile as PassFile
+use Rattle.pass_file.specs.PassFile.{Numbered, answerUnless, calls, first, leastOutput, letter, lines, list, listed, listing, refusal, shown}
 
 -- ---- the length of a line
 -- no question has a number above n
@@ -188,3 +190,20 @@ listing-of-run file e =
       short = omega arith;
       most = omega arith;
     }
+
+-- ---- the answer to a file
+linked-if-zero : (j : Judged) (room : ℕ) → cond (eqb (number j) 0) (cond (leb leastOutput room) 0 13) (number j) ≡ 0 → j ≡ Linked
+linked-if-zero Linked room e = refl
+linked-if-zero BadLength room e = cc
+linked-if-zero BadKind room e = cc
+linked-if-zero BadNext room e = cc
+
+answer-most : (question : ℕ) (text : List ℕ) (n : ℕ) → (question ≡ 0 → length text ≤ 65520) → answerUnless question text ≡ listed n → n ≤ 65520
+answer-most zero text n h e = let same : length text ≡ n = cc in omega (arith, h refl)
+answer-most (suc question) text n h e = let z : _≡_ {A = ℕ} 0 1 = cc in omega arith
+
+-- a listing that is answered is short
+pub list-most : (file : List ℕ) (room n : ℕ) → list file room ≡ listed n → n ≤ 65520
+unfolding list PassFile.firstNo
+list-most file room n e =
+    answer-most (PassFile.firstNo file room) (listing file) n (λ z. listing-of-run file (linked-if-zero (judge file) room z) .most) e
