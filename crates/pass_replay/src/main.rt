@@ -19,7 +19,7 @@ struct Counts {
     first: u64,
 }
 
-struct Case {
+struct Header {
     file: usize,
     output: usize,
     number: u32,
@@ -73,8 +73,8 @@ fn agrees(file: &[u8], out: &mut [u8], text: &[u8], expected: u32) -> bool {
     (number(listed) == expected) & (listing(listed) == text.len()) & holds(out, text)
 }
 
-fn case(header: &[u8]) -> Case {
-    Case {
+fn read_header(header: &[u8]) -> Header {
+    Header {
         file: le_bytes::read_u32(header, 0) as usize,
         output: le_bytes::read_u32(header, 4) as usize,
         number: le_bytes::read_u32(header, 8),
@@ -84,11 +84,17 @@ fn case(header: &[u8]) -> Case {
 }
 
 // Reads a case's file and listing and compares. What is cut short or too long differs.
-fn compared(c: Case, file: &mut [u8], out: &mut [u8], text: &mut [u8]) -> bool {
+fn compared(c: Header, file: &mut [u8], out: &mut [u8], text: &mut [u8]) -> bool {
     let n = c.file;
     let room = c.output;
     let m = c.listing;
-    if (file.len() < n) | (out.len() < room) | (text.len() < m) {
+    if file.len() < n {
+        return false;
+    }
+    if out.len() < room {
+        return false;
+    }
+    if text.len() < m {
         return false;
     }
     let file = &mut file[0..n];
@@ -135,7 +141,7 @@ fn main() {
         if io::read_full(STDIN_FILENO, &mut header) < 20 {
             break;
         }
-        let c = case(&header);
+        let c = read_header(&header);
         let packets = c.packets;
         let ok = compared(c, &mut file, &mut out, &mut text);
         counts = counted(counts, packets, ok);
