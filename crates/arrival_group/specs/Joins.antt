@@ -9,13 +9,12 @@ use lib.Dec.{eqb, leb, ltb}
 use lib.ListN.{length, drop, drop-of-length-le, getD}
 use lib.Seq.{drop-cons}
 use borrow.Author.Tests.{le-leb, lt-leb, leb-true, lt-ltb, le-ltb, ltb-true, ltb-false, eq-eqb, ne-eqb}
-use Rattle.time.specs.Time.{limit, place, placeLimited, limited, positive, negative, difference, sub, add, addLimited, neg, eq, lt, le, checkedDurationSince}
-use Rattle.time.specs.Laws.{trichotomy}
-use Rattle.time.specs.declared.TimeDelta.the-variants.{Negative, Positive}
+use Rattle.time.specs.Time.{difference, sub, lt, checkedDurationSince, instantOr, saturatingAdd}
+use Rattle.time.specs.Laws.{dichotomy, eq-difference, le-difference, lt-difference, sub-difference}
+use Rattle.time.specs.declared.TimeDelta.the-variants.{Positive}
 use Rattle.time.specs.declared.OptionDuration.{OptionDuration}
 use Rattle.time.specs.declared.OptionDuration.the-variants as Duration
 use Rattle.time.specs.declared.OptionInstant.the-variants as Instant
-use Rattle.time.specs.Time.{instantOr, saturatingAdd}
 use Rattle.arrival_group.specs.declared.ArrivalGroup.{ArrivalGroup}
 use Rattle.arrival_group.specs.declared.ArrivalGroupAccumulator.{ArrivalGroupAccumulator}
 use Rattle.arrival_group.specs.declared.Belongs.{Belongs}
@@ -51,80 +50,6 @@ use Rattle.arrival_group.specs.ArrivalGroup.{
   withPacket,
 }
 
-either : {P : Type 0} (m n : ℕ) → (m < n → P) → (n ≤ m → P) → P
-either m n f g = trichotomy m n f (λ e. g (omega arith)) (λ h. g (omega arith))
-
--- ---- differences
-place-zero : place (Positive 0) ≡ limit + 2
-unfolding place placeLimited limited positive
-place-zero = refl
-
-place-positive : (d : ℕ) → d ≤ limit → place (Positive d) ≡ limit + 2 + d
-unfolding place placeLimited limited positive
-place-positive d h = rw (le-leb d limit h)
-
-place-below : {a b : ℕ} → a < b → b ≤ limit → place (difference a b) ≡ limit + 1 - (b - a)
-unfolding place placeLimited limited negative difference
-place-below {a} {b} l h = rw (lt-ltb a b l, le-leb (b - a) limit (omega arith))
-
-place-above : {a b : ℕ} → b ≤ a → a ≤ limit → place (difference a b) ≡ limit + 2 + (a - b)
-unfolding place placeLimited limited positive difference
-place-above {a} {b} l h = rw (le-ltb a b l, le-leb (a - b) limit (omega arith))
-
-module _ {a b : ℕ} (h : a ≤ limit) (k : b ≤ limit) where
-  pub eq-difference : eq (difference a b) (Positive 0) ≡ eqb a b
-  eq-difference =
-      either a b
-      (λ l. rw (place-below l k, place-zero, ne-eqb a b (λ e. omega arith)) (ne-eqb (limit + 1 - (b - a)) (limit + 2) (λ e. omega arith)))
-      (λ l. rw (place-above l h, place-zero) (
-      either b a
-      (λ m. rw (ne-eqb a b (λ e. omega arith)) (ne-eqb (limit + 2 + (a - b)) (limit + 2) (λ e. omega arith)))
-      (λ m. rw (eq-eqb a b (omega arith)) (eq-eqb (limit + 2 + (a - b)) (limit + 2) (omega arith)))))
-
-  pub lt-difference : lt (difference a b) (Positive 0) ≡ ltb a b
-  lt-difference =
-      either a b
-      (λ l. rw (place-below l k, place-zero, lt-ltb a b l) (lt-ltb (limit + 1 - (b - a)) (limit + 2) (omega arith)))
-      (λ l. rw (place-above l h, place-zero, le-ltb a b l) (le-ltb (limit + 2 + (a - b)) (limit + 2) (omega arith)))
-
-  pub le-difference : (n : ℕ) → n ≤ limit → le (difference a b) (positive n) ≡ leb a (b + n)
-  unfolding positive
-  le-difference n m =
-      rw (le-leb n limit m, place-positive n m) (
-      either a b
-      (λ l. rw (place-below l k, le-leb a (b + n) (omega arith)) (le-leb (limit + 1 - (b - a)) (limit + 2 + n) (omega arith)))
-      (λ l. rw (place-above l h) (
-      either (b + n) a
-      (λ o. rw (lt-leb a (b + n) o) (lt-leb (limit + 2 + (a - b)) (limit + 2 + n) (omega arith)))
-      (λ o. rw (le-leb a (b + n) o) (le-leb (limit + 2 + (a - b)) (limit + 2 + n) (omega arith))))))
-
--- only how far apart the two are counts
-difference-shift : (a b c d : ℕ) → a + d ≡ c + b → difference a b ≡ difference c d
-unfolding difference
-difference-shift a b c d e =
-    either a b
-    (λ l. rw (lt-ltb a b l, lt-ltb c d (omega arith)) (ap Negative (omega arith)))
-    (λ l. rw (le-ltb a b l, le-ltb c d (omega arith)) (ap Positive (omega arith)))
-
-difference-below : {a b : ℕ} → a < b → difference a b ≡ Negative (b - a)
-unfolding difference
-difference-below {a} {b} l = rw (lt-ltb a b l)
-
-difference-above : {a b : ℕ} → b ≤ a → difference a b ≡ Positive (a - b)
-unfolding difference
-difference-above {a} {b} l = rw (le-ltb a b l)
-
-pub sub-difference : (a b c d : ℕ) → a + d ≤ limit → c + b ≤ limit → sub (difference a b) (difference c d) ≡ difference (a + d) (c + b)
-unfolding sub add addLimited neg limited positive negative
-sub-difference a b c d h k =
-    either a b
-    (λ l. either c d
-    (λ m. rw (difference-below l, difference-below m, le-leb (b - a) limit (omega arith), le-leb (d - c) limit (omega arith), le-leb (d - c) limit (omega arith)) (difference-shift (d - c) (b - a) (a + d) (c + b) (omega arith)))
-    (λ m. rw (difference-below l, difference-above m, le-leb (b - a) limit (omega arith), le-leb (c - d) limit (omega arith), le-leb (c - d) limit (omega arith), le-leb ((b - a) + (c - d)) limit (omega arith), difference-below {a = a + d} {b = c + b} (omega arith)) (ap Negative (omega arith))))
-    (λ l. either c d
-    (λ m. rw (difference-above l, difference-below m, le-leb (a - b) limit (omega arith), le-leb (d - c) limit (omega arith), le-leb (d - c) limit (omega arith), le-leb ((a - b) + (d - c)) limit (omega arith), difference-above {a = a + d} {b = c + b} (omega arith)) (ap Positive (omega arith)))
-    (λ m. rw (difference-above l, difference-above m, le-leb (a - b) limit (omega arith), le-leb (c - d) limit (omega arith), le-leb (c - d) limit (omega arith)) (difference-shift (a - b) (c - d) (a + d) (c + b) (omega arith))))
-
 -- ---- the test by plain numbers
 tests : (same burst near : Bool) → cond same Yes (cond burst Yes (cond (not near) NewGroup Yes)) ≡ cond ((same || near) || burst) Yes NewGroup
 tests true burst true = refl
@@ -136,13 +61,13 @@ tests false false false = refl
 
 far : (send first length : ℕ) → first ≤ send → ltb length (send - first) ≡ not (leb send (first + length))
 far send first length l =
-    either (first + length) send
+    dichotomy (first + length) send
     (λ h. rw (lt-ltb length (send - first) (omega arith), lt-leb send (first + length) h))
     (λ h. rw (le-ltb length (send - first) (omega arith), le-leb send (first + length) h))
 
 short : (remote first length : ℕ) → 0 < length → ltb (remote - first) length ≡ ltb remote (first + length)
 short remote first length l =
-    either remote (first + length)
+    dichotomy remote (first + length)
     (λ h. rw (lt-ltb (remote - first) length (omega arith), lt-ltb remote (first + length) h))
     (λ h. rw (le-ltb (remote - first) length (omega arith), le-ltb remote (first + length) h))
 
@@ -378,8 +303,8 @@ module _ (P : ArrivalGroupAccumulator → ℕ → Type 0) (sends remotes : List 
   steps : (n : ℕ) (a : ArrivalGroupAccumulator) (i : ℕ) → length sends ≤ i + n → P a i → Holds (rest a i)
   steps zero a i h p = rw (join-sends-end a sends remotes i (omega arith)) p
   steps (suc n) a i h p =
-      either i (length sends)
-      (λ k. either i (length remotes) (turn a i (joins a (getD sends i 0) (getD remotes i 0)) p (λ q. steps n (after a i) (i + 1) (omega arith) q) refl k) (λ l. rw (join-remotes-end a sends remotes i l) p))
+      dichotomy i (length sends)
+      (λ k. dichotomy i (length remotes) (turn a i (joins a (getD sends i 0) (getD remotes i 0)) p (λ q. steps n (after a i) (i + 1) (omega arith) q) refl k) (λ l. rw (join-remotes-end a sends remotes i l) p))
       (λ k. rw (join-sends-end a sends remotes i k) p)
 
   pub join-keeps : (a : ArrivalGroupAccumulator) (i : ℕ) → P a i → P (rest a i .accumulator) (rest a i .next)
