@@ -166,7 +166,7 @@ module _ {origin S R s r : ℕ} (h : origin ≤ s) (k : s ≤ S + 500000) (l : r
   whole-added NewGroup w = w
   whole-added Skipped w = w
 
-between-difference : {n a b : ℕ} → n ≤ limit → a ≤ n → b ≤ n → between a b ≡ difference a b
+pub between-difference : {n a b : ℕ} → n ≤ limit → a ≤ n → b ≤ n → between a b ≡ difference a b
 unfolding exact
 between-difference {n} {a} {b} l h k = rw (le-leb a limit (omega arith), le-leb b limit (omega arith)) (since-exact a b (omega arith) (omega arith))
 

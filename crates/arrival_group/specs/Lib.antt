@@ -1,3 +1,4 @@
 pub mod ArrivalGroup
 pub mod Laws
 pub mod Rows
+pub mod Joins

@@ -1,5 +1,7 @@
 // src/bwe/delay/arrival_group.rs: packets sent together, and the delays between such groups. Group size and sequence numbers reach no answer.
 ghost use mathlib.Core.Path.{_≡_};
+ghost use Prim.Native.Nat.{_≤_, max};
+ghost use lib.ListN.{drop};
 ghost use Rattle.arrival_group.specs.ArrivalGroup as Group;
 use time::OptionDuration;
 use time::OptionInstant;
@@ -11,6 +13,11 @@ const BURST_TIME_INTERVAL: u64 = 5_000_000;
 const SEND_TIME_GROUP_LENGTH: u64 = 5_000_000;
 
 const MAX_BURST_DURATION: u64 = 100_000_000;
+
+// The last instant of a packet, and of an accumulator, whose sums fit a u64.
+const MAX_PACKET_TIME: u64 = 1_000_000_000_000_000_000;
+
+const MAX_GROUP_TIME: u64 = 2_000_000_000_000_000_000;
 
 // The send and the remote receive instant of a group's first packet.
 pub enum OptionFirst {
@@ -64,6 +71,125 @@ pub struct ArrivalGroupAccumulator {
 pub struct Accumulated {
     pub accumulator: ArrivalGroupAccumulator,
     pub delta: OptionDelta,
+}
+
+// An accumulator after packets that start no group, and the place of the packet after them.
+pub struct Joined {
+    pub accumulator: ArrivalGroupAccumulator,
+    pub next: usize,
+}
+
+// The last instants of a group after packets that join it, and the place of the packet after them.
+struct JoinedTimes {
+    last_send: u64,
+    last_remote: u64,
+    next: usize,
+}
+
+// The later of two instants.
+fn later(a: u64, b: u64) -> u64
+    ensures { λ r. ⌜ r ≡ max a b ⌝ }
+{
+    if a < b {
+        return b;
+    }
+    a
+}
+
+// Whether a packet sent no earlier than its group's first belongs to the group.
+fn joins_group(
+    first_send: u64,
+    first_remote: u64,
+    last_send: u64,
+    last_remote: u64,
+    send: u64,
+    remote: u64,
+) -> bool
+    requires { ⌜ Group.WithinGroup «first_send» «first_remote» «last_send» «last_remote» ⌝ }
+    requires { ⌜ (send ≤ Group.maxGroupTime) × (remote ≤ Group.maxGroupTime) ⌝ }
+    ensures { λ r. ⌜ r ≡ Group.joinsGroup «first_send» «first_remote» «last_send» «last_remote» send remote ⌝ }
+{
+    (send == last_send)
+        | (send <= first_send + SEND_TIME_GROUP_LENGTH)
+        | ((remote + last_send < send + last_remote)
+            & (remote <= last_remote + BURST_TIME_INTERVAL)
+            & (remote < first_remote + MAX_BURST_DURATION))
+}
+
+// The packets from a place on that join a group, by plain numbers.
+fn join_times(
+    origin: u64,
+    first_send: u64,
+    first_remote: u64,
+    group_send: u64,
+    group_remote: u64,
+    local_send_times: &[u64],
+    remote_recv_times: &[u64],
+    from: usize,
+) -> JoinedTimes
+    requires { ⌜ Group.WithinGroup «first_send» «first_remote» «group_send» «group_remote» ⌝ }
+    requires { ⌜ origin ≤ Group.maxGroupTime ⌝ }
+    ensures { λ r. ⌜ Group.JoinedTimes origin «first_send» «first_remote» «group_send» «group_remote» (now («local_send_times» .entry)) (now («remote_recv_times» .entry)) from r ⌝ }
+{
+    let mut last_send = group_send;
+    let mut last_remote = group_remote;
+    let mut next = from;
+    while next < local_send_times.len() {
+        if remote_recv_times.len() <= next {
+            return JoinedTimes {
+                last_send,
+                last_remote,
+                next,
+            };
+        }
+        let sent = local_send_times[next];
+        let remote = remote_recv_times[next];
+        if sent > MAX_PACKET_TIME {
+            return JoinedTimes {
+                last_send,
+                last_remote,
+                next,
+            };
+        }
+        if remote > MAX_PACKET_TIME {
+            return JoinedTimes {
+                last_send,
+                last_remote,
+                next,
+            };
+        }
+        if sent < origin {
+            next += 1;
+            continue;
+        }
+        let send = origin + ((sent - origin) / 1000 + 500) / 1000 * 1_000_000;
+        if send < first_send {
+            next += 1;
+            continue;
+        }
+        if !joins_group(
+            first_send,
+            first_remote,
+            last_send,
+            last_remote,
+            send,
+            remote,
+        ) {
+            return JoinedTimes {
+                last_send,
+                last_remote,
+                next,
+            };
+        }
+        last_send = later(last_send, send);
+        last_remote = later(last_remote, remote);
+        next += 1;
+    }
+    JoinedTimes {
+        last_send,
+        last_remote,
+        next,
+    }
 }
 
 // The later of an instant and of one that may be missing.
@@ -290,5 +416,75 @@ impl ArrivalGroupAccumulator {
             };
         };
         self.accumulate_rounded(origin, rounded(origin, elapsed), remote_recv_time)
+    }
+
+    // The packets from a place on that start no group, up to the first that starts one or whose instants are too great for a sum.
+    pub fn join(self, local_send_times: &[u64], remote_recv_times: &[u64], from: usize) -> Joined
+        ensures { λ r. ⌜ r ≡ Group.join self (drop from (now («local_send_times» .entry))) (drop from (now («remote_recv_times» .entry))) from ⌝ }
+    {
+        let send_time_origin = self.send_time_origin;
+        let previous_group = self.previous_group;
+        let group = self.current_group;
+        let first = group.first;
+        let last_local_send_time = group.last_local_send_time;
+        let last_remote_recv_time = group.last_remote_recv_time;
+        let OptionInstant::Some(origin) = send_time_origin else {
+            return Joined {
+                accumulator: self,
+                next: from,
+            };
+        };
+        let OptionFirst::Some(first_send, first_remote) = first else {
+            return Joined {
+                accumulator: self,
+                next: from,
+            };
+        };
+        let OptionInstant::Some(last_send) = last_local_send_time else {
+            return Joined {
+                accumulator: self,
+                next: from,
+            };
+        };
+        let OptionInstant::Some(last_remote) = last_remote_recv_time else {
+            return Joined {
+                accumulator: self,
+                next: from,
+            };
+        };
+        let small = (origin <= MAX_GROUP_TIME)
+            & ((first_send <= MAX_GROUP_TIME) & (first_remote <= MAX_GROUP_TIME))
+            & (last_send <= MAX_GROUP_TIME)
+            & (last_remote <= MAX_GROUP_TIME);
+        if !small {
+            return Joined {
+                accumulator: self,
+                next: from,
+            };
+        }
+        let joined = join_times(
+            origin,
+            first_send,
+            first_remote,
+            last_send,
+            last_remote,
+            local_send_times,
+            remote_recv_times,
+            from,
+        );
+        let current_group = ArrivalGroup {
+            first,
+            last_local_send_time: OptionInstant::Some(joined.last_send),
+            last_remote_recv_time: OptionInstant::Some(joined.last_remote),
+        };
+        let accumulator = ArrivalGroupAccumulator {
+            send_time_origin,
+            previous_group,
+            current_group,
+        };
+        Joined {
+            accumulator,
+            next: joined.next,
+        }
     }
 }

@@ -1,54 +1,147 @@
--- A report's packets, one after the other: a turn of the loop, and where it ends because a list has no more.
-use mathlib.Core.Path.{_≡_, refl}
+-- A report's packets, one after the other: a turn of each loop, where it ends because a list has no more, and the parts put together.
+use mathlib.Core.Path.{_≡_, refl, ap, sym, _∙_}
+use mathlib.Core.Bool.{true}
 use mathlib.Core.List.{List, [], _∷_}
-use Prim.Native.Nat.{ℕ, _+_, _<_, _≤_}
+use Prim.Native.Nat.{ℕ, zero, suc, _+_, _-_, _<_, _≤_, max, min}
 use native.Mathlib.Numerals.{add-one}
-use lib.ListN.{length, drop, drop-of-length-le, getD}
+use native.Mathlib.Omega.{arith}
+use borrow.Author.Tests.{lt-ltb, le-ltb}
+use lib.ListN.{length, take, drop, drop-of-length-le, getD}
 use lib.Seq.{drop-cons}
-use Rattle.time.specs.Time.{longest, saturatingDurationSince}
+use Rattle.time.specs.Time.{durationOr, longest}
+use Rattle.time.specs.Laws.{dichotomy}
 use Rattle.time.specs.declared.OptionDuration.{OptionDuration}
-use Rattle.arrival_group.specs.ArrivalGroup.{accumulatePacket}
+use Rattle.time.specs.declared.OptionDuration.the-variants as Duration
+use Rattle.arrival_group.specs.ArrivalGroup.{accumulatePacket, join, joins}
+use Rattle.arrival_group.specs.Joins.{join-keeps, joins-no-delta}
 use Rattle.arrival_group.specs.declared.Accumulated.{Accumulated}
+use Rattle.arrival_group.specs.declared.Joined.{Joined}
 use Rattle.arrival_group.specs.declared.ArrivalGroupAccumulator.{ArrivalGroupAccumulator}
 use Rattle.trendline.specs.declared.TrendlineEstimator.{TrendlineEstimator}
+use Rattle.control.specs.declared.Grouped.{Grouped}
 use Rattle.control.specs.declared.Packets.{Packets}
-use Rattle.control.specs.Control.{add, addAll, observe}
+use Rattle.control.specs.Control.{add, addAll, addGroup, addGroups, longestRtt, observe}
 
-abbrev pub packets : ArrivalGroupAccumulator → TrendlineEstimator → OptionDuration → Packets
-packets groups trendline rtt = record { «arrival_group_accumulator» = groups; «trendline_estimator» = trendline; «max_rtt» = rtt }
+abbrev pub grouped : ArrivalGroupAccumulator → TrendlineEstimator → Grouped
+grouped a t = record { accumulator = a; trendline = t }
 
-module _ (p : Packets) (sends remotes receives : List ℕ) (i : ℕ) where
-  -- a packet, part by part
-  pub add-turn :
-      {done : Accumulated} {t : TrendlineEstimator} {rtt : ℕ} {m : OptionDuration} →
-      done ≡ accumulatePacket (p .«arrival_group_accumulator») (getD sends i 0) (getD remotes i 0) →
-      t ≡ observe (done .delta) (p .«trendline_estimator») →
-      rtt ≡ saturatingDurationSince (getD receives i 0) (getD sends i 0) →
-      m ≡ longest (p .«max_rtt») rtt →
+-- ---- groups
+module _ (sends remotes : List ℕ) (i : ℕ) where
+  pub groups-turn :
+      (g : Grouped) →
       i < length sends →
       i < length remotes →
-      i < length receives →
-      addAll (packets (done .accumulator) t m) (drop (i + 1) sends) (drop (i + 1) remotes) (drop (i + 1) receives) ≡ addAll p (drop i sends) (drop i remotes) (drop i receives)
-  unfolding addAll add
-  add-turn ed et er em hs hr hl = rw (em, er, et, ed, add-one, drop-cons sends i 0, drop-cons remotes i 0, drop-cons receives i 0)
+      addGroups (addGroup g (getD sends i 0) (getD remotes i 0)) (drop (i + 1) sends) (drop (i + 1) remotes) ≡ addGroups g (drop i sends) (drop i remotes)
+  unfolding addGroups
+  groups-turn g h k = rw (add-one, drop-cons sends i 0 h, drop-cons remotes i 0 k)
 
-  pub sends-end : length sends ≤ i → addAll p (drop i sends) (drop i remotes) (drop i receives) ≡ p
-  unfolding addAll
-  sends-end h = rw (drop-of-length-le sends h)
+  pub groups-sends-end : (g : Grouped) → length sends ≤ i → addGroups g (drop i sends) (drop i remotes) ≡ g
+  unfolding addGroups
+  groups-sends-end g h = rw (drop-of-length-le sends h)
 
-  pub remotes-end : length remotes ≤ i → addAll p (drop i sends) (drop i remotes) (drop i receives) ≡ p
-  unfolding addAll
-  remotes-end h = rw (drop-of-length-le remotes h) (none (drop i sends))
+  pub groups-remotes-end : (g : Grouped) → length remotes ≤ i → addGroups g (drop i sends) (drop i remotes) ≡ g
+  unfolding addGroups
+  groups-remotes-end g h = rw (drop-of-length-le remotes h) (none (drop i sends))
     where
-      none : (ss : List ℕ) → addAll p ss [] (drop i receives) ≡ p
+      none : (ss : List ℕ) → addGroups g ss [] ≡ g
       none [] = refl
       none (s ∷ ss) = refl
 
-  pub receives-end : length receives ≤ i → addAll p (drop i sends) (drop i remotes) (drop i receives) ≡ p
-  unfolding addAll
-  receives-end h = rw (drop-of-length-le receives h) (none (drop i sends) (drop i remotes))
+  -- part by part
+  pub groups-turn-by :
+      (a : ArrivalGroupAccumulator) (t : TrendlineEstimator) {u : TrendlineEstimator} {done : Accumulated} →
+      done ≡ accumulatePacket a (getD sends i 0) (getD remotes i 0) →
+      u ≡ observe (done .delta) t →
+      i < length sends →
+      i < length remotes →
+      addGroups (grouped (done .accumulator) u) (drop (i + 1) sends) (drop (i + 1) remotes) ≡ addGroups (grouped a t) (drop i sends) (drop i remotes)
+  unfolding addGroup
+  groups-turn-by a t e f h k = rw (f, e) (groups-turn (grouped a t) h k)
+
+-- a packet that joins leaves the trendline
+joins-group : (a : ArrivalGroupAccumulator) (t : TrendlineEstimator) (send remote : ℕ) → joins a send remote ≡ true → addGroup (grouped a t) send remote ≡ grouped (accumulatePacket a send remote .accumulator) t
+unfolding addGroup
+joins-group a t send remote e = rw (joins-no-delta a send remote e)
+
+-- a later place, from which on what is left, added too, gives the whole
+abbrev pub Left : List ℕ → List ℕ → TrendlineEstimator → Grouped → ℕ → ArrivalGroupAccumulator → ℕ → Type 0
+Left sends remotes t whole from a i = (from ≤ i) × (addGroups (grouped a t) (drop i sends) (drop i remotes) ≡ whole)
+
+pub join-groups :
+    (sends remotes : List ℕ) (a : ArrivalGroupAccumulator) (t : TrendlineEstimator) (i : ℕ) {j : Joined} {whole : Grouped} →
+    j ≡ join a (drop i sends) (drop i remotes) i →
+    addGroups (grouped a t) (drop i sends) (drop i remotes) ≡ whole →
+    Left sends remotes t whole i (j .accumulator) (j .next)
+join-groups sends remotes a t i {j} {whole} e w =
+    rw e
+    (join-keeps (Left sends remotes t whole i) sends remotes
+    (λ b k h l f p. (omega arith, rw (← joins-group b t (getD sends k 0) (getD remotes k 0) f) (groups-turn sends remotes k (grouped b t) h l ∙ p .1)))
+    a i (omega arith, w))
+
+-- ---- round trips
+module _ (sends receives : List ℕ) (d i : ℕ) where
+  pub rtts-turn :
+      i < length sends →
+      i < length receives →
+      longestRtt (max d (getD receives i 0 - getD sends i 0)) (drop (i + 1) sends) (drop (i + 1) receives) ≡ longestRtt d (drop i sends) (drop i receives)
+  unfolding longestRtt
+  rtts-turn h k = rw (add-one, drop-cons sends i 0 h, drop-cons receives i 0 k)
+
+  pub rtts-sends-end : length sends ≤ i → longestRtt d (drop i sends) (drop i receives) ≡ d
+  unfolding longestRtt
+  rtts-sends-end h = rw (drop-of-length-le sends h)
+
+  pub rtts-receives-end : length receives ≤ i → longestRtt d (drop i sends) (drop i receives) ≡ d
+  unfolding longestRtt
+  rtts-receives-end h = rw (drop-of-length-le receives h) (none (drop i sends))
     where
-      none : (ss rs : List ℕ) → addAll p ss rs [] ≡ p
-      none [] rs = refl
-      none (s ∷ ss) [] = refl
-      none (s ∷ ss) (r ∷ rs) = refl
+      none : (ss : List ℕ) → longestRtt d ss [] ≡ d
+      none [] = refl
+      none (s ∷ ss) = refl
+
+-- ---- the parts, of the packets that all three lists have
+longest-max : (d : OptionDuration) (rtt : ℕ) → longest d rtt ≡ Duration.Some (max (durationOr d 0) rtt)
+unfolding longest
+longest-max Duration.None rtt = ap Duration.Some (omega arith)
+longest-max (Duration.Some d) rtt =
+    dichotomy d rtt (λ h. rw (lt-ltb d rtt h) (ap Duration.Some (omega arith))) (λ h. rw (le-ltb d rtt h) (ap Duration.Some (omega arith)))
+
+abbrev groupsOf : Packets → Grouped
+groupsOf p = grouped (p .«arrival_group_accumulator») (p .«trendline_estimator»)
+
+abbrev pub parts : Grouped → ℕ → Packets
+parts g d = record { «arrival_group_accumulator» = g .accumulator; «trendline_estimator» = g .trendline; «max_rtt» = Duration.Some d }
+
+parts-some :
+    (n d : ℕ) (p : Packets) (sends remotes receives : List ℕ) →
+    n ≡ min (min (length sends) (length remotes)) (length receives) →
+    p .«max_rtt» ≡ Duration.Some d →
+    addAll p sends remotes receives ≡ parts (addGroups (groupsOf p) (take n sends) (take n remotes)) (longestRtt d (take n sends) (take n receives))
+unfolding addAll add addGroups addGroup longestRtt
+parts-some n d p [] remotes receives e f = let z : n ≡ 0 = omega arith in rw (z, ← f)
+parts-some n d p (s ∷ sends) [] receives e f = let z : n ≡ 0 = omega arith in rw (z, ← f)
+parts-some n d p (s ∷ sends) (r ∷ remotes) [] e f = let z : n ≡ 0 = omega arith in rw (z, ← f)
+parts-some zero d p (s ∷ sends) (r ∷ remotes) (l ∷ receives) e f = absurd (omega arith)
+parts-some (suc n) d p (s ∷ sends) (r ∷ remotes) (l ∷ receives) e f =
+    parts-some n (max d (l - s)) (add p s r l) sends remotes receives (omega arith) (longest-max (p .«max_rtt») (l - s) ∙ rw f)
+
+pub add-parts :
+    (n : ℕ) (p : Packets) (sends remotes receives : List ℕ) →
+    n ≡ min (min (length sends) (length remotes)) (length receives) →
+    0 < n →
+    addAll p sends remotes receives
+    ≡ parts (addGroups (groupsOf p) (take n sends) (take n remotes)) (longestRtt (durationOr (p .«max_rtt») 0) (take n sends) (take n receives))
+unfolding addAll add addGroups addGroup longestRtt
+add-parts n p [] remotes receives e h = absurd (omega arith)
+add-parts n p (s ∷ sends) [] receives e h = absurd (omega arith)
+add-parts n p (s ∷ sends) (r ∷ remotes) [] e h = absurd (omega arith)
+add-parts zero p (s ∷ sends) (r ∷ remotes) (l ∷ receives) e h = absurd (omega arith)
+add-parts (suc n) p (s ∷ sends) (r ∷ remotes) (l ∷ receives) e h =
+    parts-some n (max (durationOr (p .«max_rtt») 0) (l - s)) (add p s r l) sends remotes receives (omega arith) (longest-max (p .«max_rtt») (l - s))
+
+pub add-nothing : (p : Packets) (sends remotes receives : List ℕ) → 0 ≡ min (min (length sends) (length remotes)) (length receives) → addAll p sends remotes receives ≡ p
+unfolding addAll
+add-nothing p [] remotes receives e = refl
+add-nothing p (s ∷ sends) [] receives e = refl
+add-nothing p (s ∷ sends) (r ∷ remotes) [] e = refl
+add-nothing p (s ∷ sends) (r ∷ remotes) (l ∷ receives) e = absurd (omega arith)

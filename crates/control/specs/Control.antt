@@ -1,5 +1,5 @@
 -- src/bwe/delay/control.rs: what a report and a timeout do to the delay controller. Times are ns, the smoothed round trip is seconds.
-use Prim.Native.Nat.{ℕ, _*_, min}
+use Prim.Native.Nat.{ℕ, _*_, max, min}
 use mathlib.Core.Bool.{Bool, false, cond}
 use mathlib.Core.List.{List, [], _∷_}
 use lib.Dec.{leb}
@@ -28,6 +28,7 @@ use Rattle.rate_control.specs.RateControl as RateControl
 use Rattle.rate_control.specs.declared.RateControl as R
 use Rattle.control.specs.declared.DelayController.{DelayController}
 use Rattle.control.specs.declared.Packets.{Packets}
+use Rattle.control.specs.declared.Grouped.{Grouped}
 
 -- ---- constants: 25 ms and 500 ms; the smoothing factor 1/8; the limits of an estimate
 abbrev pub updateInterval : ℕ
@@ -77,6 +78,22 @@ addAll p [] remotes receives = p
 addAll p (s ∷ sends) [] receives = p
 addAll p (s ∷ sends) (r ∷ remotes) [] = p
 addAll p (s ∷ sends) (r ∷ remotes) (l ∷ receives) = addAll (add p s r l) sends remotes receives
+
+-- the same in two parts: the groups with the trendline, and the round trips
+unfoldable pub addGroup : Grouped → ℕ → ℕ → Grouped
+addGroup g send remote =
+    let done = Group.accumulatePacket (g .accumulator) send remote in
+    record { accumulator = done .accumulator; trendline = observe (done .delta) (g .trendline) }
+
+unfoldable pub addGroups : Grouped → List ℕ → List ℕ → Grouped
+addGroups g [] remotes = g
+addGroups g (s ∷ sends) [] = g
+addGroups g (s ∷ sends) (r ∷ remotes) = addGroups (addGroup g s r) sends remotes
+
+unfoldable pub longestRtt : ℕ → List ℕ → List ℕ → ℕ
+longestRtt d [] receives = d
+longestRtt d (s ∷ sends) [] = d
+longestRtt d (s ∷ sends) (l ∷ receives) = longestRtt (max d (saturatingDurationSince l s)) sends receives
 
 -- ---- the smoothed round trip
 unfoldable pub updateRtt : MovingAverage → OptionDuration → MovingAverage

@@ -176,6 +176,9 @@ trichotomy {P} m n less same more = go (ltb m n) (ltb n m) refl refl
     go false true p q = more (ltb-true n m q)
     go false false p q = same (omega (arith, ltb-false m n p, ltb-false n m q))
 
+pub dichotomy : {P : Type 0} (m n : ℕ) → (m < n → P) → (n ≤ m → P) → P
+dichotomy m n f g = trichotomy m n f (λ e. g (omega arith)) (λ h. g (omega arith))
+
 total : (m n : ℕ) → (leb m n || leb n m) ≡ true
 total m n =
     trichotomy m n (λ h. rw (le-leb m n (omega arith))) (λ h. rw (le-leb m n (omega arith))) (λ h. rw (lt-leb m n h) (le-leb n m (omega arith)))
@@ -313,6 +316,77 @@ add-since a b h k =
     (ltb a b)
     (λ e. rw (le-ltb b (b - a) (omega arith)) (ap Exact (omega (arith, ltb-true a b e))))
     (λ e. let s : b + (a - b) ≡ a = omega (arith, ltb-false a b e) in rw (s, le-leb a limit h)))
+
+-- ---- the difference of two numbers: its place, and the order of differences
+place-zero : place (Positive 0) ≡ limit + 2
+unfolding place placeLimited limited positive
+place-zero = refl
+
+place-positive : (d : ℕ) → d ≤ limit → place (Positive d) ≡ limit + 2 + d
+unfolding place placeLimited limited positive
+place-positive d h = rw (le-leb d limit h)
+
+place-below : {a b : ℕ} → a < b → b ≤ limit → place (difference a b) ≡ limit + 1 - (b - a)
+unfolding place placeLimited limited negative difference
+place-below {a} {b} l h = rw (lt-ltb a b l, le-leb (b - a) limit (omega arith))
+
+place-above : {a b : ℕ} → b ≤ a → a ≤ limit → place (difference a b) ≡ limit + 2 + (a - b)
+unfolding place placeLimited limited positive difference
+place-above {a} {b} l h = rw (le-ltb a b l, le-leb (a - b) limit (omega arith))
+
+module _ {a b : ℕ} (h : a ≤ limit) (k : b ≤ limit) where
+  pub eq-difference : eq (difference a b) (Positive 0) ≡ eqb a b
+  eq-difference =
+      dichotomy a b
+      (λ l. rw (place-below l k, place-zero, ne-eqb a b (λ e. omega arith)) (ne-eqb (limit + 1 - (b - a)) (limit + 2) (λ e. omega arith)))
+      (λ l. rw (place-above l h, place-zero) (
+      dichotomy b a
+      (λ m. rw (ne-eqb a b (λ e. omega arith)) (ne-eqb (limit + 2 + (a - b)) (limit + 2) (λ e. omega arith)))
+      (λ m. rw (eq-eqb a b (omega arith)) (eq-eqb (limit + 2 + (a - b)) (limit + 2) (omega arith)))))
+
+  pub lt-difference : lt (difference a b) (Positive 0) ≡ ltb a b
+  lt-difference =
+      dichotomy a b
+      (λ l. rw (place-below l k, place-zero, lt-ltb a b l) (lt-ltb (limit + 1 - (b - a)) (limit + 2) (omega arith)))
+      (λ l. rw (place-above l h, place-zero, le-ltb a b l) (le-ltb (limit + 2 + (a - b)) (limit + 2) (omega arith)))
+
+  pub le-difference : (n : ℕ) → n ≤ limit → le (difference a b) (positive n) ≡ leb a (b + n)
+  unfolding positive
+  le-difference n m =
+      rw (le-leb n limit m, place-positive n m) (
+      dichotomy a b
+      (λ l. rw (place-below l k, le-leb a (b + n) (omega arith)) (le-leb (limit + 1 - (b - a)) (limit + 2 + n) (omega arith)))
+      (λ l. rw (place-above l h) (
+      dichotomy (b + n) a
+      (λ o. rw (lt-leb a (b + n) o) (lt-leb (limit + 2 + (a - b)) (limit + 2 + n) (omega arith)))
+      (λ o. rw (le-leb a (b + n) o) (le-leb (limit + 2 + (a - b)) (limit + 2 + n) (omega arith))))))
+
+-- only how far apart the two are counts
+difference-shift : (a b c d : ℕ) → a + d ≡ c + b → difference a b ≡ difference c d
+unfolding difference
+difference-shift a b c d e =
+    dichotomy a b
+    (λ l. rw (lt-ltb a b l, lt-ltb c d (omega arith)) (ap Negative (omega arith)))
+    (λ l. rw (le-ltb a b l, le-ltb c d (omega arith)) (ap Positive (omega arith)))
+
+difference-below : {a b : ℕ} → a < b → difference a b ≡ Negative (b - a)
+unfolding difference
+difference-below {a} {b} l = rw (lt-ltb a b l)
+
+difference-above : {a b : ℕ} → b ≤ a → difference a b ≡ Positive (a - b)
+unfolding difference
+difference-above {a} {b} l = rw (le-ltb a b l)
+
+pub sub-difference : (a b c d : ℕ) → a + d ≤ limit → c + b ≤ limit → sub (difference a b) (difference c d) ≡ difference (a + d) (c + b)
+unfolding sub add addLimited neg limited positive negative
+sub-difference a b c d h k =
+    dichotomy a b
+    (λ l. dichotomy c d
+    (λ m. rw (difference-below l, difference-below m, le-leb (b - a) limit (omega arith), le-leb (d - c) limit (omega arith), le-leb (d - c) limit (omega arith)) (difference-shift (d - c) (b - a) (a + d) (c + b) (omega arith)))
+    (λ m. rw (difference-below l, difference-above m, le-leb (b - a) limit (omega arith), le-leb (c - d) limit (omega arith), le-leb (c - d) limit (omega arith), le-leb ((b - a) + (c - d)) limit (omega arith), difference-below {a = a + d} {b = c + b} (omega arith)) (ap Negative (omega arith))))
+    (λ l. dichotomy c d
+    (λ m. rw (difference-above l, difference-below m, le-leb (a - b) limit (omega arith), le-leb (d - c) limit (omega arith), le-leb (d - c) limit (omega arith), le-leb ((a - b) + (d - c)) limit (omega arith), difference-above {a = a + d} {b = c + b} (omega arith)) (ap Positive (omega arith)))
+    (λ m. rw (difference-above l, difference-above m, le-leb (a - b) limit (omega arith), le-leb (c - d) limit (omega arith), le-leb (c - d) limit (omega arith)) (difference-shift (a - b) (c - d) (a + d) (c + b) (omega arith))))
 
 pub seconds-positive : (d : ℕ) → d ≤ limit → asSecsF64 (Positive d) ≡ Seconds.asSecsF64 d
 unfolding asSecsF64 secsLimited
