@@ -99,7 +99,9 @@ impl Packets {
                     max_rtt,
                 };
             }
-            let done = accumulator.accumulate_packet(local_send_times[i], remote_recv_times[i]);
+            let local_send_time = local_send_times[i];
+            let remote_recv_time = remote_recv_times[i];
+            let done = accumulator.accumulate_packet(local_send_time, remote_recv_time);
             accumulator = done.accumulator;
             let delta = done.delta;
             if let OptionDelta::Some(variation) = delta {
