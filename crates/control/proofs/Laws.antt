@@ -18,64 +18,63 @@ use Rattle.arrival_group.specs.declared.Accumulated.{Accumulated}
 use Rattle.arrival_group.specs.declared.Joined.{Joined}
 use Rattle.arrival_group.specs.declared.ArrivalGroupAccumulator.{ArrivalGroupAccumulator}
 use Rattle.trendline.specs.declared.TrendlineEstimator.{TrendlineEstimator}
-use Rattle.control.specs.declared.Grouped.{Grouped}
 use Rattle.control.specs.declared.Packets.{Packets}
-use Rattle.control.specs.Control.{add, addAll, addGroup, addGroups, longestRtt, observe}
+use Rattle.control.specs.Control.{add, addAll, addGroup, addGroups, longestRtt, observe, withRtt}
 
-abbrev pub grouped : ArrivalGroupAccumulator → TrendlineEstimator → Grouped
-grouped a t = record { accumulator = a; trendline = t }
+abbrev pub packets : ArrivalGroupAccumulator → TrendlineEstimator → OptionDuration → Packets
+packets a t m = record { «arrival_group_accumulator» = a; «trendline_estimator» = t; «max_rtt» = m }
 
 -- ---- groups
 module _ (sends remotes : List ℕ) (i : ℕ) where
   pub groups-turn :
-      (g : Grouped) →
+      (p : Packets) →
       i < length sends →
       i < length remotes →
-      addGroups (addGroup g (getD sends i 0) (getD remotes i 0)) (drop (i + 1) sends) (drop (i + 1) remotes) ≡ addGroups g (drop i sends) (drop i remotes)
+      addGroups (addGroup p (getD sends i 0) (getD remotes i 0)) (drop (i + 1) sends) (drop (i + 1) remotes) ≡ addGroups p (drop i sends) (drop i remotes)
   unfolding addGroups
-  groups-turn g h k = rw (add-one, drop-cons sends i 0 h, drop-cons remotes i 0 k)
+  groups-turn p h k = rw (add-one, drop-cons sends i 0 h, drop-cons remotes i 0 k)
 
-  pub groups-sends-end : (g : Grouped) → length sends ≤ i → addGroups g (drop i sends) (drop i remotes) ≡ g
+  pub groups-sends-end : (p : Packets) → length sends ≤ i → addGroups p (drop i sends) (drop i remotes) ≡ p
   unfolding addGroups
-  groups-sends-end g h = rw (drop-of-length-le sends h)
+  groups-sends-end p h = rw (drop-of-length-le sends h)
 
-  pub groups-remotes-end : (g : Grouped) → length remotes ≤ i → addGroups g (drop i sends) (drop i remotes) ≡ g
+  pub groups-remotes-end : (p : Packets) → length remotes ≤ i → addGroups p (drop i sends) (drop i remotes) ≡ p
   unfolding addGroups
-  groups-remotes-end g h = rw (drop-of-length-le remotes h) (none (drop i sends))
+  groups-remotes-end p h = rw (drop-of-length-le remotes h) (none (drop i sends))
     where
-      none : (ss : List ℕ) → addGroups g ss [] ≡ g
+      none : (ss : List ℕ) → addGroups p ss [] ≡ p
       none [] = refl
       none (s ∷ ss) = refl
 
   -- part by part
   pub groups-turn-by :
-      (a : ArrivalGroupAccumulator) (t : TrendlineEstimator) {u : TrendlineEstimator} {done : Accumulated} →
+      (a : ArrivalGroupAccumulator) (t : TrendlineEstimator) (m : OptionDuration) {u : TrendlineEstimator} {done : Accumulated} →
       done ≡ accumulatePacket a (getD sends i 0) (getD remotes i 0) →
       u ≡ observe (done .delta) t →
       i < length sends →
       i < length remotes →
-      addGroups (grouped (done .accumulator) u) (drop (i + 1) sends) (drop (i + 1) remotes) ≡ addGroups (grouped a t) (drop i sends) (drop i remotes)
+      addGroups (packets (done .accumulator) u m) (drop (i + 1) sends) (drop (i + 1) remotes) ≡ addGroups (packets a t m) (drop i sends) (drop i remotes)
   unfolding addGroup
-  groups-turn-by a t e f h k = rw (f, e) (groups-turn (grouped a t) h k)
+  groups-turn-by a t m e f h k = rw (f, e) (groups-turn (packets a t m) h k)
 
 -- a packet that joins leaves the trendline
-joins-group : (a : ArrivalGroupAccumulator) (t : TrendlineEstimator) (send remote : ℕ) → joins a send remote ≡ true → addGroup (grouped a t) send remote ≡ grouped (accumulatePacket a send remote .accumulator) t
+joins-group : (a : ArrivalGroupAccumulator) (t : TrendlineEstimator) (m : OptionDuration) (send remote : ℕ) → joins a send remote ≡ true → addGroup (packets a t m) send remote ≡ packets (accumulatePacket a send remote .accumulator) t m
 unfolding addGroup
-joins-group a t send remote e = rw (joins-no-delta a send remote e)
+joins-group a t m send remote e = rw (joins-no-delta a send remote e)
 
 -- a later place, from which on what is left, added too, gives the whole
-abbrev pub Left : List ℕ → List ℕ → TrendlineEstimator → Grouped → ℕ → ArrivalGroupAccumulator → ℕ → Type 0
-Left sends remotes t whole from a i = (from ≤ i) × (addGroups (grouped a t) (drop i sends) (drop i remotes) ≡ whole)
+abbrev pub Left : List ℕ → List ℕ → TrendlineEstimator → OptionDuration → Packets → ℕ → ArrivalGroupAccumulator → ℕ → Type 0
+Left sends remotes t m whole from a i = (from ≤ i) × (addGroups (packets a t m) (drop i sends) (drop i remotes) ≡ whole)
 
 pub join-groups :
-    (sends remotes : List ℕ) (a : ArrivalGroupAccumulator) (t : TrendlineEstimator) (i : ℕ) {j : Joined} {whole : Grouped} →
+    (sends remotes : List ℕ) (a : ArrivalGroupAccumulator) (t : TrendlineEstimator) (m : OptionDuration) (i : ℕ) {j : Joined} {whole : Packets} →
     j ≡ join a (drop i sends) (drop i remotes) i →
-    addGroups (grouped a t) (drop i sends) (drop i remotes) ≡ whole →
-    Left sends remotes t whole i (j .accumulator) (j .next)
-join-groups sends remotes a t i {j} {whole} e w =
+    addGroups (packets a t m) (drop i sends) (drop i remotes) ≡ whole →
+    Left sends remotes t m whole i (j .accumulator) (j .next)
+join-groups sends remotes a t m i {j} {whole} e w =
     rw e
-    (join-keeps (Left sends remotes t whole i) sends remotes
-    (λ b k h l f p. (omega arith, rw (← joins-group b t (getD sends k 0) (getD remotes k 0) f) (groups-turn sends remotes k (grouped b t) h l ∙ p .1)))
+    (join-keeps (Left sends remotes t m whole i) sends remotes
+    (λ b k h l f p. (omega arith, rw (← joins-group b t m (getD sends k 0) (getD remotes k 0) f) (groups-turn sends remotes k (packets b t m) h l ∙ p .1)))
     a i (omega arith, w))
 
 -- ---- round trips
@@ -106,17 +105,11 @@ longest-max Duration.None rtt = ap Duration.Some (omega arith)
 longest-max (Duration.Some d) rtt =
     dichotomy d rtt (λ h. rw (lt-ltb d rtt h) (ap Duration.Some (omega arith))) (λ h. rw (le-ltb d rtt h) (ap Duration.Some (omega arith)))
 
-abbrev groupsOf : Packets → Grouped
-groupsOf p = grouped (p .«arrival_group_accumulator») (p .«trendline_estimator»)
-
-abbrev pub parts : Grouped → ℕ → Packets
-parts g d = record { «arrival_group_accumulator» = g .accumulator; «trendline_estimator» = g .trendline; «max_rtt» = Duration.Some d }
-
 parts-some :
     (n d : ℕ) (p : Packets) (sends remotes receives : List ℕ) →
     n ≡ min (min (length sends) (length remotes)) (length receives) →
     p .«max_rtt» ≡ Duration.Some d →
-    addAll p sends remotes receives ≡ parts (addGroups (groupsOf p) (take n sends) (take n remotes)) (longestRtt d (take n sends) (take n receives))
+    addAll p sends remotes receives ≡ addGroups (withRtt p (Duration.Some (longestRtt d (take n sends) (take n receives)))) (take n sends) (take n remotes)
 unfolding addAll add addGroups addGroup longestRtt
 parts-some n d p [] remotes receives e f = let z : n ≡ 0 = omega arith in rw (z, ← f)
 parts-some n d p (s ∷ sends) [] receives e f = let z : n ≡ 0 = omega arith in rw (z, ← f)
@@ -130,7 +123,7 @@ pub add-parts :
     n ≡ min (min (length sends) (length remotes)) (length receives) →
     0 < n →
     addAll p sends remotes receives
-    ≡ parts (addGroups (groupsOf p) (take n sends) (take n remotes)) (longestRtt (durationOr (p .«max_rtt») 0) (take n sends) (take n receives))
+    ≡ addGroups (withRtt p (Duration.Some (longestRtt (durationOr (p .«max_rtt») 0) (take n sends) (take n receives)))) (take n sends) (take n remotes)
 unfolding addAll add addGroups addGroup longestRtt
 add-parts n p [] remotes receives e h = absurd (omega arith)
 add-parts n p (s ∷ sends) [] receives e h = absurd (omega arith)

@@ -28,7 +28,6 @@ use Rattle.rate_control.specs.RateControl as RateControl
 use Rattle.rate_control.specs.declared.RateControl as R
 use Rattle.control.specs.declared.DelayController.{DelayController}
 use Rattle.control.specs.declared.Packets.{Packets}
-use Rattle.control.specs.declared.Grouped.{Grouped}
 
 -- ---- constants: 25 ms and 500 ms; the smoothing factor 1/8; the limits of an estimate
 abbrev pub updateInterval : ℕ
@@ -80,15 +79,23 @@ addAll p (s ∷ sends) (r ∷ remotes) [] = p
 addAll p (s ∷ sends) (r ∷ remotes) (l ∷ receives) = addAll (add p s r l) sends remotes receives
 
 -- the same in two parts: the groups with the trendline, and the round trips
-unfoldable pub addGroup : Grouped → ℕ → ℕ → Grouped
-addGroup g send remote =
-    let done = Group.accumulatePacket (g .accumulator) send remote in
-    record { accumulator = done .accumulator; trendline = observe (done .delta) (g .trendline) }
+abbrev pub withRtt : Packets → OptionDuration → Packets
+withRtt p rtt =
+    record { «arrival_group_accumulator» = p .«arrival_group_accumulator»; «trendline_estimator» = p .«trendline_estimator»; «max_rtt» = rtt }
 
-unfoldable pub addGroups : Grouped → List ℕ → List ℕ → Grouped
-addGroups g [] remotes = g
-addGroups g (s ∷ sends) [] = g
-addGroups g (s ∷ sends) (r ∷ remotes) = addGroups (addGroup g s r) sends remotes
+unfoldable pub addGroup : Packets → ℕ → ℕ → Packets
+addGroup p send remote =
+    let done = Group.accumulatePacket (p .«arrival_group_accumulator») send remote in
+    record {
+      «arrival_group_accumulator» = done .accumulator;
+      «trendline_estimator» = observe (done .delta) (p .«trendline_estimator»);
+      «max_rtt» = p .«max_rtt»;
+    }
+
+unfoldable pub addGroups : Packets → List ℕ → List ℕ → Packets
+addGroups p [] remotes = p
+addGroups p (s ∷ sends) [] = p
+addGroups p (s ∷ sends) (r ∷ remotes) = addGroups (addGroup p s r) sends remotes
 
 unfoldable pub longestRtt : ℕ → List ℕ → List ℕ → ℕ
 longestRtt d [] receives = d

@@ -39,49 +39,6 @@ pub struct Packets {
     pub max_rtt: OptionDuration,
 }
 
-// What the packets' send and remote receive instants feed: the groups, and the trendline by the delays between them.
-struct Grouped {
-    accumulator: ArrivalGroupAccumulator,
-    trendline: TrendlineEstimator,
-}
-
-// Packets in the order of receipt, as two lists; what one list has more is left out.
-fn add_groups(groups: Grouped, local_send_times: &[u64], remote_recv_times: &[u64]) -> Grouped
-    ensures { λ r. ⌜ r ≡ Control.addGroups groups (now («local_send_times» .entry)) (now («remote_recv_times» .entry)) ⌝ }
-{
-    let mut accumulator = groups.accumulator;
-    let mut trendline = groups.trendline;
-    let mut i = 0;
-    while i < local_send_times.len() {
-        let joined = accumulator.join(local_send_times, remote_recv_times, i);
-        accumulator = joined.accumulator;
-        i = joined.next;
-        if local_send_times.len() <= i {
-            return Grouped {
-                accumulator,
-                trendline,
-            };
-        }
-        if remote_recv_times.len() <= i {
-            return Grouped {
-                accumulator,
-                trendline,
-            };
-        }
-        let done = accumulator.accumulate_packet(local_send_times[i], remote_recv_times[i]);
-        accumulator = done.accumulator;
-        let delta = done.delta;
-        if let OptionDelta::Some(variation) = delta {
-            trendline = trendline.add_delay_observation(variation, variation.last_remote_recv_time);
-        }
-        i += 1;
-    }
-    Grouped {
-        accumulator,
-        trendline,
-    }
-}
-
 // The longest of a duration and of the packets' round trips.
 fn longest_rtt(duration: u64, local_send_times: &[u64], local_recv_times: &[u64]) -> u64
     ensures { λ r. ⌜ r ≡ Control.longestRtt duration (now («local_send_times» .entry)) (now («local_recv_times» .entry)) ⌝ }
@@ -111,6 +68,57 @@ fn shorter(a: usize, b: usize) -> usize
 }
 
 impl Packets {
+    // The groups and the trendline after packets in the order of receipt, as two lists; what one list has more is left out. The greatest
+    // round trip is given.
+    fn add_groups(
+        self,
+        max_rtt: OptionDuration,
+        local_send_times: &[u64],
+        remote_recv_times: &[u64],
+    ) -> Self
+        ensures { λ r. ⌜ r ≡ Control.addGroups (Control.withRtt self «max_rtt») (now («local_send_times» .entry)) (now («remote_recv_times» .entry)) ⌝ }
+    {
+        let mut accumulator = self.arrival_group_accumulator;
+        let mut trendline = self.trendline_estimator;
+        let mut i = 0;
+        while i < local_send_times.len() {
+            let joined = accumulator.join(local_send_times, remote_recv_times, i);
+            accumulator = joined.accumulator;
+            i = joined.next;
+            if local_send_times.len() <= i {
+                return Self {
+                    arrival_group_accumulator: accumulator,
+                    trendline_estimator: trendline,
+                    max_rtt,
+                };
+            }
+            if remote_recv_times.len() <= i {
+                return Self {
+                    arrival_group_accumulator: accumulator,
+                    trendline_estimator: trendline,
+                    max_rtt,
+                };
+            }
+            let local_send_time = local_send_times[i];
+            let remote_recv_time = remote_recv_times[i];
+            let done = accumulator.accumulate_packet(local_send_time, remote_recv_time);
+            accumulator = done.accumulator;
+            let delta = done.delta;
+            if let OptionDelta::Some(variation) = delta {
+                trendline = trendline.add_delay_observation(
+                    variation,
+                    variation.last_remote_recv_time,
+                );
+            }
+            i += 1;
+        }
+        Self {
+            arrival_group_accumulator: accumulator,
+            trendline_estimator: trendline,
+            max_rtt,
+        }
+    }
+
     // A report's packets in the order of receipt, as three lists; what one list has more is left out.
     fn add_all(
         self,
@@ -127,29 +135,17 @@ impl Packets {
         if n == 0 {
             return self;
         }
-        let accumulator = self.arrival_group_accumulator;
-        let trendline = self.trendline_estimator;
-        let grouped = add_groups(
-            Grouped {
-                accumulator,
-                trendline,
-            },
-            &local_send_times[0..n],
-            &remote_recv_times[0..n],
-        );
-        let arrival_group_accumulator = grouped.accumulator;
-        let trendline_estimator = grouped.trendline;
         let max_rtt = self.max_rtt;
         let rtt = longest_rtt(
             time::duration_or(max_rtt, 0),
             &local_send_times[0..n],
             &local_recv_times[0..n],
         );
-        Self {
-            arrival_group_accumulator,
-            trendline_estimator,
-            max_rtt: OptionDuration::Some(rtt),
-        }
+        self.add_groups(
+            OptionDuration::Some(rtt),
+            &local_send_times[0..n],
+            &remote_recv_times[0..n],
+        )
     }
 }
 

@@ -12,10 +12,6 @@ use Rattle.arrival_group.specs.ArrivalGroup.{WithinGroup, join, ofTimes}
 use Rattle.arrival_group.specs.Joins.{late-send, late-remote, before-origin, before-first, in-group, past-group, join-turn, join-stop, join-sends-end, join-remotes-end}
 use Rattle.arrival_group.proofs.join_times.Statement.{statement}
 use Rattle.arrival_group.proofs.join_times.Tie as tie
-use Rattle.arrival_group.proofs.join_times.Reads as reads
-use Rattle.arrival_group.proofs.join_times.Lts as lts
-use Rattle.arrival_group.proofs.joins_group.Reads as joins-group-reads
-use Rattle.arrival_group.proofs.later.Reads as later-reads
 
 abbrev Inv-loop : tie.InvT-loop
 Inv-loop origin first-send first-remote group-send group-remote sends remotes from last-send₀ last-remote₀ next₀ last-send last-remote next =

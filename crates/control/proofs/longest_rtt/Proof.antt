@@ -9,9 +9,6 @@ use Rattle.control.specs.Control.{longestRtt}
 use Rattle.control.proofs.Laws.{rtts-turn, rtts-sends-end, rtts-receives-end}
 use Rattle.control.proofs.longest_rtt.Statement.{statement}
 use Rattle.control.proofs.longest_rtt.Tie as tie
-use Rattle.control.proofs.longest_rtt.Reads as reads
-use Rattle.control.proofs.longest_rtt.Lts as lts
-use Rattle.time.proofs.saturating_duration_since.Reads as saturating-duration-since-reads
 
 abbrev Inv-loop : tie.InvT-loop
 Inv-loop duration sends receives longest₀ i₀ longest i =

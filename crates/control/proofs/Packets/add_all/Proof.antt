@@ -12,11 +12,11 @@ returns c = let s = c .before .before .before .before .before .before in sym (ad
 
 returns-2 : tie.Need-returns-2
 returns-2 c =
-    let s = c .before .before .before .before .before .before .before .before .before .before .before .before .before .before .before .before .before in
-    rw (c .longest-rtt .ensures, c .before .before .before .duration-or .ensures, c .before .before .before .before .before .before .add-groups .ensures)
-    (sym (add-parts (c .before .before .before .before .before .before .before .before .before .before .before .before .shorter2 .result - 0) (s .args .self) (s .args .local-send-times .now) (s .args .remote-recv-times .now) (s .args .local-recv-times .now) (omega (arith, c .before .before .before .before .before .before .before .before .before .before .before .before .shorter2 .ensures, c .before .before .before .before .before .before .before .before .before .before .before .before .before .shorter .ensures)) (omega (arith, c .before .before .before .before .before .before .before .before .before .before .before .if1 .left))))
+    let s = c .before .before .before .before .before .before .before .before .before .before .before .before .before in
+    rw (c .add-groups .ensures, c .before .before .before .longest-rtt .ensures, c .before .before .before .before .before .before .duration-or .ensures)
+    (sym (add-parts (c .before .before .before .before .before .before .before .before .shorter2 .result - 0) (s .args .self) (s .args .local-send-times .now) (s .args .remote-recv-times .now) (s .args .local-recv-times .now) (omega (arith, c .before .before .before .before .before .before .before .before .shorter2 .ensures, c .before .before .before .before .before .before .before .before .before .shorter .ensures)) (omega (arith, c .before .before .before .before .before .before .before .if1 .left))))
 
 pub add-all-spec : {M : Type 1} → statement M
 add-all-spec =
     tie.close
-    (tie.spec (λ c κs. search needs) (λ c κs. search needs) returns (λ c. search needs) (λ c. search needs) (λ c. search needs) (λ c. search needs) (λ c. search needs) (λ c. search needs) (λ c κs. search needs) (λ c κs. search needs) (λ c. search needs) (λ c. search needs) (λ c. search needs) (λ c. search needs) (λ c. search needs) (λ c. search needs) (λ c κs. search needs) returns-2)
+    (tie.spec (λ c κs. search needs) (λ c κs. search needs) returns (λ c κs. search needs) (λ c. search needs) (λ c. search needs) (λ c. search needs) (λ c. search needs) (λ c. search needs) (λ c. search needs) (λ c κs. search needs) (λ c. search needs) (λ c. search needs) (λ c. search needs) (λ c. search needs) (λ c. search needs) (λ c. search needs) (λ c κs. search needs) returns-2)
