@@ -1,4 +1,5 @@
 pub mod ArrivalGroup
 pub mod Laws
 pub mod Rows
-pub mod Joins
+pub mod Join
+pub mod JoinLaws

@@ -3,6 +3,7 @@ ghost use mathlib.Core.Path.{_≡_};
 ghost use Prim.Native.Nat.{_≤_, max};
 ghost use lib.ListN.{drop};
 ghost use Rattle.arrival_group.specs.ArrivalGroup as Group;
+ghost use Rattle.arrival_group.specs.Join as Join;
 use time::OptionDuration;
 use time::OptionInstant;
 use time::TimeDelta;
@@ -105,9 +106,9 @@ fn joins_group(
     send: u64,
     remote: u64,
 ) -> bool
-    requires { ⌜ Group.WithinGroup «first_send» «first_remote» «last_send» «last_remote» ⌝ }
-    requires { ⌜ (send ≤ Group.maxGroupTime) × (remote ≤ Group.maxGroupTime) ⌝ }
-    ensures { λ r. ⌜ r ≡ Group.joinsGroup «first_send» «first_remote» «last_send» «last_remote» send remote ⌝ }
+    requires { ⌜ Join.WithinGroup «first_send» «first_remote» «last_send» «last_remote» ⌝ }
+    requires { ⌜ (send ≤ Join.maxGroupTime) × (remote ≤ Join.maxGroupTime) ⌝ }
+    ensures { λ r. ⌜ r ≡ Join.joinsGroup «first_send» «first_remote» «last_send» «last_remote» send remote ⌝ }
 {
     (send == last_send)
         | (send <= first_send + SEND_TIME_GROUP_LENGTH)
@@ -127,9 +128,9 @@ fn join_times(
     remote_recv_times: &[u64],
     from: usize,
 ) -> JoinedTimes
-    requires { ⌜ Group.WithinGroup «first_send» «first_remote» «group_send» «group_remote» ⌝ }
-    requires { ⌜ origin ≤ Group.maxGroupTime ⌝ }
-    ensures { λ r. ⌜ Group.JoinedTimes origin «first_send» «first_remote» «group_send» «group_remote» (now («local_send_times» .entry)) (now («remote_recv_times» .entry)) from r ⌝ }
+    requires { ⌜ Join.WithinGroup «first_send» «first_remote» «group_send» «group_remote» ⌝ }
+    requires { ⌜ origin ≤ Join.maxGroupTime ⌝ }
+    ensures { λ r. ⌜ Join.JoinedTimes origin «first_send» «first_remote» «group_send» «group_remote» (now («local_send_times» .entry)) (now («remote_recv_times» .entry)) from r ⌝ }
 {
     let mut last_send = group_send;
     let mut last_remote = group_remote;
@@ -420,7 +421,7 @@ impl ArrivalGroupAccumulator {
 
     // The packets from a place on that start no group, up to the first that starts one or whose instants are too great for a sum.
     pub fn join(self, local_send_times: &[u64], remote_recv_times: &[u64], from: usize) -> Joined
-        ensures { λ r. ⌜ r ≡ Group.join self (drop from (now («local_send_times» .entry))) (drop from (now («remote_recv_times» .entry))) from ⌝ }
+        ensures { λ r. ⌜ r ≡ Join.join self (drop from (now («local_send_times» .entry))) (drop from (now («remote_recv_times» .entry))) from ⌝ }
     {
         let send_time_origin = self.send_time_origin;
         let previous_group = self.previous_group;

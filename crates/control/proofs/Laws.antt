@@ -12,8 +12,9 @@ use Rattle.time.specs.Time.{durationOr, longest}
 use Rattle.time.specs.Laws.{dichotomy}
 use Rattle.time.specs.declared.OptionDuration.{OptionDuration}
 use Rattle.time.specs.declared.OptionDuration.the-variants as Duration
-use Rattle.arrival_group.specs.ArrivalGroup.{accumulatePacket, join, joins}
-use Rattle.arrival_group.specs.Joins.{join-keeps, joins-no-delta}
+use Rattle.arrival_group.specs.ArrivalGroup.{accumulatePacket}
+use Rattle.arrival_group.specs.Join.{join, joins}
+use Rattle.arrival_group.specs.JoinLaws.{join-keeps, joins-no-delta}
 use Rattle.arrival_group.specs.declared.Accumulated.{Accumulated}
 use Rattle.arrival_group.specs.declared.Joined.{Joined}
 use Rattle.arrival_group.specs.declared.ArrivalGroupAccumulator.{ArrivalGroupAccumulator}

@@ -8,8 +8,8 @@ use borrow.Author.Needs.{needs}
 use lib.ListN.{length, drop, getD}
 use Rattle.arrival_group.specs.declared.OptionGroup.{OptionGroup}
 use Rattle.arrival_group.specs.declared.ArrivalGroupAccumulator.{ArrivalGroupAccumulator}
-use Rattle.arrival_group.specs.ArrivalGroup.{WithinGroup, join, ofTimes}
-use Rattle.arrival_group.specs.Joins.{late-send, late-remote, before-origin, before-first, in-group, past-group, join-turn, join-stop, join-sends-end, join-remotes-end}
+use Rattle.arrival_group.specs.Join.{WithinGroup, join, ofTimes}
+use Rattle.arrival_group.specs.JoinLaws.{late-send, late-remote, before-origin, before-first, in-group, past-group, join-turn, join-stop, join-sends-end, join-remotes-end}
 use Rattle.arrival_group.proofs.join_times.Statement.{statement}
 use Rattle.arrival_group.proofs.join_times.Tie as tie
 

@@ -6,8 +6,8 @@ use borrow.Author.Needs.{needs}
 use lib.ListN.{drop}
 use Rattle.arrival_group.specs.declared.ArrivalGroupAccumulator.{ArrivalGroupAccumulator}
 use Rattle.arrival_group.specs.declared.Joined.{Joined}
-use Rattle.arrival_group.specs.ArrivalGroup.{join, within}
-use Rattle.arrival_group.specs.Joins.{is-of-times, is-within, join-none, no-first, no-last-remote, no-last-send, no-origin, small-times}
+use Rattle.arrival_group.specs.Join.{join, within}
+use Rattle.arrival_group.specs.JoinLaws.{is-of-times, is-within, join-none, no-first, no-last-remote, no-last-send, no-origin, small-times}
 use Rattle.arrival_group.proofs.ArrivalGroupAccumulator.join.Statement.{statement}
 use Rattle.arrival_group.proofs.ArrivalGroupAccumulator.join.Tie as tie
 

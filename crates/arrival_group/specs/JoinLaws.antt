@@ -24,31 +24,8 @@ use Rattle.arrival_group.specs.declared.OptionFirst.the-variants as Firs
 use Rattle.arrival_group.specs.declared.OptionGroup.{OptionGroup}
 use Rattle.arrival_group.specs.declared.OptionDelta.the-variants as Delta
 use Rattle.arrival_group.specs.Laws.{between-difference}
-use Rattle.arrival_group.specs.ArrivalGroup.{
-  WithinGroup,
-  accumulatePacket,
-  accumulateRounded,
-  accumulateSince,
-  addPacket,
-  belongsToGroup,
-  between,
-  burstTimeInterval,
-  inBurst,
-  join,
-  joins,
-  joinsGroup,
-  latest,
-  maxBurstDuration,
-  maxGroupTime,
-  maxPacketTime,
-  ofTimes,
-  rounded,
-  sendTimeGroupLength,
-  startsGroup,
-  startsSince,
-  within,
-  withPacket,
-}
+use Rattle.arrival_group.specs.ArrivalGroup.{accumulatePacket, accumulateRounded, accumulateSince, addPacket, belongsToGroup, between, burstTimeInterval, inBurst, latest, maxBurstDuration, rounded, sendTimeGroupLength, withPacket}
+use Rattle.arrival_group.specs.Join.{WithinGroup, join, joins, joinsGroup, maxGroupTime, maxPacketTime, ofTimes, startsGroup, startsSince, within}
 
 -- ---- the test by plain numbers
 tests : (same burst near : Bool) → cond same Yes (cond burst Yes (cond (not near) NewGroup Yes)) ≡ cond ((same || near) || burst) Yes NewGroup
