@@ -1,5 +1,5 @@
 -- Laws of packets that start no group: what one of them does to an accumulator, and the test by plain numbers.
-use Prim.Native.Nat.{ℕ, zero, suc, _+_, _-_, _*_, _/_, _^_, _≤_, _<_, max}
+use Prim.Native.Nat.{ℕ, zero, suc, _+_, _-_, _*_, _/_, _≤_, _<_, max}
 use native.Mathlib.Omega.{arith}
 use native.Mathlib.Numerals.{add-one}
 use mathlib.Core.Path.{_≡_, refl, ap, subst}
@@ -8,16 +8,14 @@ use mathlib.Core.List.{List, [], _∷_}
 use lib.Dec.{eqb, leb, ltb}
 use lib.ListN.{length, drop, drop-of-length-le, getD}
 use lib.Seq.{drop-cons}
-use borrow.Author.Tests.{le-leb, lt-leb, leb-true, lt-ltb, le-ltb, ltb-true, ltb-false, eq-eqb, ne-eqb}
+use borrow.Author.Tests.{le-leb, lt-leb, leb-true, lt-ltb, le-ltb}
 use Rattle.time.specs.Time.{difference, sub, lt, checkedDurationSince, instantOr, saturatingAdd}
 use Rattle.time.specs.Laws.{dichotomy, eq-difference, le-difference, lt-difference, sub-difference}
 use Rattle.time.specs.declared.TimeDelta.the-variants.{Positive}
 use Rattle.time.specs.declared.OptionDuration.{OptionDuration}
 use Rattle.time.specs.declared.OptionDuration.the-variants as Duration
 use Rattle.time.specs.declared.OptionInstant.the-variants as Instant
-use Rattle.arrival_group.specs.declared.ArrivalGroup.{ArrivalGroup}
 use Rattle.arrival_group.specs.declared.ArrivalGroupAccumulator.{ArrivalGroupAccumulator}
-use Rattle.arrival_group.specs.declared.Belongs.{Belongs}
 use Rattle.arrival_group.specs.declared.Joined.{Joined}
 use Rattle.arrival_group.specs.declared.Belongs.the-variants.{Yes, NewGroup, Skipped}
 use Rattle.arrival_group.specs.declared.OptionFirst.the-variants as First

@@ -1,6 +1,6 @@
 -- What is left, joined too, gives the whole; the instants stay small.
 use mathlib.Core.List.{List}
-use Prim.Native.Nat.{ℕ, _≤_, _<_, _-_, _+_}
+use Prim.Native.Nat.{ℕ, _-_}
 use mathlib.Core.Path.{_≡_, refl, sym, _∙_}
 use native.Mathlib.Omega.{arith}
 use borrow.Author.Tests.{not-true, not-false}
@@ -49,18 +49,6 @@ returns : tie.Need-returns Inv-loop μ-loop
 returns c =
     let l = c .before .before in λ previous. sym (l .loop .inv .1 previous) ∙ join-remotes-end (groups l previous) (sends l) (remotes l) (l .loop .next) (omega arith)
 
-mul-sent : tie.Need-mul-sent Inv-loop μ-loop
-mul-sent c = search needs
-
-shared-slice-read-sent : tie.Need-shared-slice-read-sent Inv-loop μ-loop
-shared-slice-read-sent c = search needs
-
-mul-remote : tie.Need-mul-remote Inv-loop μ-loop
-mul-remote c = search needs
-
-shared-slice-read-remote : tie.Need-shared-slice-read-remote Inv-loop μ-loop
-shared-slice-read-remote c = search needs
-
 returns-2 : tie.Need-returns-2 Inv-loop μ-loop
 returns-2 c =
     let l = c .before .before .before .before .before in λ previous. sym (l .loop .inv .1 previous) ∙ join-stop (groups l previous) (sends l) (remotes l) (l .loop .next) (late-send (groups l previous) (sent l) (remote l) (c .if2 .taken)) (omega arith) (omega arith)
@@ -69,53 +57,17 @@ returns-3 : tie.Need-returns-3 Inv-loop μ-loop
 returns-3 c =
     let l = c .before .before .before .before .before .before in λ previous. sym (l .loop .inv .1 previous) ∙ join-stop (groups l previous) (sends l) (remotes l) (l .loop .next) (late-remote (groups l previous) (sent l) (remote l) (c .if3 .taken)) (omega arith) (omega arith)
 
-add-next : tie.Need-add-next Inv-loop μ-loop
-add-next c = search needs
-
-loop-less : tie.Need-loop-less Inv-loop μ-loop
-loop-less c = search needs
-
 loop-again : tie.Need-loop-again Inv-loop μ-loop
 loop-again c =
     let l = c .before .before .before .before .before .before .before in (l .loop .inv .0, λ previous. join-turn (groups l previous) (sends l) (remotes l) (l .loop .next) (before-origin previous (omega arith) (l .loop .inv .0) (omega arith) (omega arith) (c .if4 .taken)) (omega arith) (omega arith) ∙ l .loop .inv .1 previous)
-
-add-send : tie.Need-add-send Inv-loop μ-loop
-add-send c = search needs
-
-mul-send : tie.Need-mul-send Inv-loop μ-loop
-mul-send c = search needs
-
-add-send-2 : tie.Need-add-send-2 Inv-loop μ-loop
-add-send-2 c = search needs
-
-add-next-2 : tie.Need-add-next-2 Inv-loop μ-loop
-add-next-2 c = search needs
-
-loop-less-2 : tie.Need-loop-less-2 Inv-loop μ-loop
-loop-less-2 c = search needs
 
 loop-again-2 : tie.Need-loop-again-2 Inv-loop μ-loop
 loop-again-2 c =
     let l = c .before .before .before .before .before .before .before .before in (l .loop .inv .0, λ previous. join-turn (groups l previous) (sends l) (remotes l) (l .loop .next) (before-first previous (omega arith) (l .loop .inv .0) (omega arith) (omega arith) (omega arith) (c .if5 .taken)) (omega arith) (omega arith) ∙ l .loop .inv .1 previous)
 
-joins-group-requires : tie.Need-joins-group-requires Inv-loop μ-loop
-joins-group-requires c κs = search needs
-
 returns-4 : tie.Need-returns-4 Inv-loop μ-loop
 returns-4 c =
     let l = c .before .before .before .before .before .before .before .before .before .before in λ previous. sym (l .loop .inv .1 previous) ∙ join-stop (groups l previous) (sends l) (remotes l) (l .loop .next) (past-group previous (omega arith) (l .loop .inv .0) (omega arith) (omega arith) (omega arith) (omega arith) (sym (c .before .joins-group .ensures) ∙ not-true (c .before .joins-group .result) (c .if6 .taken))) (omega arith) (omega arith)
-
-later-requires : tie.Need-later-requires Inv-loop μ-loop
-later-requires c κs = search needs
-
-later-requires-2 : tie.Need-later-requires-2 Inv-loop μ-loop
-later-requires-2 c κs = search needs
-
-add-next-3 : tie.Need-add-next-3 Inv-loop μ-loop
-add-next-3 c = search needs
-
-loop-less-3 : tie.Need-loop-less-3 Inv-loop μ-loop
-loop-less-3 c = search needs
 
 loop-again-3 : tie.Need-loop-again-3 Inv-loop μ-loop
 loop-again-3 c =
@@ -128,31 +80,4 @@ returns-5 c =
 pub join-times-spec : {M : Type 1} → statement M
 join-times-spec =
     tie.close
-    (tie.spec
-    Inv-loop
-    μ-loop
-    loop-holds
-    returns
-    mul-sent
-    shared-slice-read-sent
-    mul-remote
-    shared-slice-read-remote
-    returns-2
-    returns-3
-    add-next
-    loop-less
-    loop-again
-    add-send
-    mul-send
-    add-send-2
-    add-next-2
-    loop-less-2
-    loop-again-2
-    joins-group-requires
-    returns-4
-    later-requires
-    later-requires-2
-    add-next-3
-    loop-less-3
-    loop-again-3
-    returns-5)
+    (tie.spec Inv-loop μ-loop loop-holds returns (λ c. search needs) (λ c. search needs) (λ c. search needs) (λ c. search needs) returns-2 returns-3 (λ c. search needs) (λ c. search needs) loop-again (λ c. search needs) (λ c. search needs) (λ c. search needs) (λ c. search needs) (λ c. search needs) loop-again-2 (λ c κs. search needs) returns-4 (λ c κs. search needs) (λ c κs. search needs) (λ c. search needs) (λ c. search needs) loop-again-3 returns-5)

@@ -1,5 +1,5 @@
 -- What is left, compared too, gives the whole.
-use Prim.Native.Nat.{_≤_, _<_, _-_, max}
+use Prim.Native.Nat.{_-_, max}
 use mathlib.Core.Path.{_≡_, sym, _∙_}
 use mathlib.Core.Logic.{⊎-elim}
 use native.Mathlib.Omega.{arith}
