@@ -93,17 +93,39 @@ fn timed(turns: u32, mut list: impl FnMut()) -> f64 {
     start.elapsed().as_nanos() as f64 / turns as f64
 }
 
-pub fn bench(rounds: u32) {
-    println!("{:<30} {:>7} {:>5} {:>19} {:>19} {:>6}", "", "", "", "ns a packet", "ns a call", "");
-    println!("{:<30} {:>7} {:>5} {:>9} {:>9} {:>9} {:>9} {:>6}", "pass", "packets", "calls", "ours", "Rust", "ours", "Rust", "ratio");
-    let passes = [
+fn passes() -> [(&'static str, Vec<Record>); 5] {
+    [
         ("typical", typical()),
         ("1,024 packets in order", large(0..1024)),
         ("1,024 packets, last first", large((0..1024).rev())),
         ("1,024 packets, shuffled", large(shuffled().into_iter())),
         ("timeouts only", (0..1365).map(|i| timeout((1000 + 25 * i) * MS)).collect()),
-    ];
-    for (name, records) in passes {
+    ]
+}
+
+/// Lists one pass so many times on one side, for a count of instructions.
+pub fn turns(name: &str, side: &str, turns: u32) {
+    let (_, records) = passes().into_iter().find(|(n, _)| *n == name).expect("no such pass");
+    let file = file(&records);
+    let mut out = vec![0; 65_536];
+    let mut theirs = Vec::with_capacity(65_536);
+    for _ in 0..turns {
+        match side {
+            "ours" => {
+                ours(&file, &mut out);
+            }
+            _ => {
+                theirs.clear();
+                pass::list_plain(&file, &mut theirs);
+            }
+        }
+    }
+}
+
+pub fn bench(rounds: u32) {
+    println!("{:<30} {:>7} {:>5} {:>19} {:>19} {:>6}", "", "", "", "ns a packet", "ns a call", "");
+    println!("{:<30} {:>7} {:>5} {:>9} {:>9} {:>9} {:>9} {:>6}", "pass", "packets", "calls", "ours", "Rust", "ours", "Rust", "ratio");
+    for (name, records) in passes() {
         let file = file(&records);
         let mut out = vec![0; 65_536];
         let n = ours(&file, &mut out);

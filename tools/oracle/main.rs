@@ -100,6 +100,8 @@ fn main() {
         Some("passes") if words.len() == 5 => pass_files::make(words[2].parse().unwrap(), words[3].parse().unwrap(), words[4] == "long"),
         #[cfg(bench)]
         Some("bench") if words.len() == 3 => bench::bench(words[2].parse().unwrap()),
+        #[cfg(bench)]
+        Some("turns") if words.len() == 5 => bench::turns(&words[2], &words[3], words[4].parse().unwrap()),
         _ => {
             eprintln!("usage: oracle make MODULE SEED COUNT | distance A B | listings A B | demand3 SEED COUNT | zero_sizes SIZE | entries | passes SEED COUNT SIZE | list");
             std::process::exit(2);
