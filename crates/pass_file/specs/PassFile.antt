@@ -12,9 +12,10 @@ use Rattle.bandwidth.specs.declared.OptionBitrate.{OptionBitrate}
 use Rattle.bandwidth.specs.declared.OptionBitrate.the-variants as Rate
 use Rattle.bandwidth.specs.declared.BandwidthUsage.{BandwidthUsage}
 use Rattle.bandwidth.specs.declared.BandwidthUsage.the-variants as Usage
+use Rattle.control.specs.declared.DelayController.{DelayController}
 use Rattle.link_state.specs.declared.Link.{Link}
 use Rattle.link.specs.Link as L
-use Rattle.link.specs.Link.{Reply, Outcome, accepted, refused, report-of, estimate, hypothesis, nextTimeout}
+use Rattle.link.specs.Link.{Reply, Outcome, accepted, refused, report-of}
 use Rattle.link_runs.specs.Statement.{Call, call, report, timeout}
 use Rattle.pass_records.specs.PassRecords as Records
 use Rattle.pass_records.specs.PassRecords.{kind, flag, size, sequence, send, remote, receive, probeBits, chain, judge, number}
@@ -64,9 +65,14 @@ letter Usage.Overuse = code "O"
 letter Usage.Normal = code "N"
 letter Usage.Underuse = code "U"
 
--- the line of record k: what its call gave, and the link after it, which a refused call leaves as it was
+-- the line of record k, with the number that its call got and the link's controller after it
+abbrev pub lineOf : ℕ → ℕ → DelayController → List ℕ
+lineOf k number c =
+    line k number (letter (c .«trendline_estimator» .hypothesis)) (toBits binary64 (c .«rate_control» .«estimated_bitrate» .0)) (c .«next_timeout»)
+
+-- what a call gave, and the link after it, which a refused call leaves as it was
 unfoldable pub shown : ℕ → Outcome → List ℕ
-shown k o = line k (refusal (o .reply)) (letter (hypothesis (o .link))) (toBits binary64 (estimate (o .link))) (nextTimeout (o .link))
+shown k o = lineOf k (refusal (o .reply)) (o .link .control)
 
 -- the lines of a run: each call gets the link that the one before handed back
 unfoldable pub lines : Link → List Numbered → List ℕ

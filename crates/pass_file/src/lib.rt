@@ -1,15 +1,14 @@
 // Document 01, pass file and program: the listing of a pass file, a line for each call of a link, written into a lent buffer.
 ghost use mathlib.Core.Path.{_≡_};
 ghost use mathlib.Core.Bool.{true};
-ghost use Prim.Native.Nat.{_+_, _*_, _≤_, _<_};
+ghost use Prim.Native.Nat.{_≤_};
 ghost use lib.ListN.{length, set};
 ghost use Rattle.link_state.specs.State.{inRange};
 ghost use Rattle.link.specs.Link.{outcome, reply};
 ghost use Rattle.link_runs.specs.Statement as Runs;
 ghost use Rattle.pass_records.specs.PassRecords as Records;
 ghost use Rattle.pass_records.specs.declared.Judged.the-variants.{Linked};
-ghost use lib.Ieee.{binary64, toBits};
-ghost use Rattle.listing_line.specs.ListingLine.{line, putLine, placeAfter, Wrote};
+ghost use Rattle.listing_line.specs.ListingLine.{putLine, placeAfter, Wrote};
 ghost use Rattle.pass_file.specs.PassFile as PassFile;
 use acked_bitrate_estimator::AckedBitrateEstimator;
 use bandwidth::BandwidthUsage;
@@ -106,8 +105,8 @@ fn letter(hypothesis: BandwidthUsage) -> u8
 
 // The line of record k, from the number that its call got and the link's controller after it.
 fn put_called(out: &mut [u8], at: usize, k: usize, number: u64, control: DelayController) -> usize
-    ensures { λ r. ⌜ now (out .exit) ≡ putLine (now (out .entry)) at (line k number (PassFile.letter (control .«trendline_estimator» .hypothesis)) (toBits binary64 (control .«rate_control» .«estimated_bitrate» .0)) (control .«next_timeout»)) ⌝ }
-    ensures { λ r. ⌜ r ≡ placeAfter (now (out .entry)) at (line k number (PassFile.letter (control .«trendline_estimator» .hypothesis)) (toBits binary64 (control .«rate_control» .«estimated_bitrate» .0)) (control .«next_timeout»)) ⌝ }
+    ensures { λ r. ⌜ now (out .exit) ≡ putLine (now (out .entry)) at (PassFile.lineOf k number control) ⌝ }
+    ensures { λ r. ⌜ r ≡ placeAfter (now (out .entry)) at (PassFile.lineOf k number control) ⌝ }
 {
     let bits = float_bits::to_bits(control.last_estimate().as_f64());
     listing_line::put_line(
