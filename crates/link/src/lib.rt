@@ -2,8 +2,11 @@
 // turns down gives that question's answer and the link as it came in.
 ghost use mathlib.Core.Path.{_≡_};
 ghost use mathlib.Core.Bool.{true};
+ghost use Rattle.acked_bitrate_estimator.specs.Known.{estimator};
 ghost use Rattle.link.specs.Link as Calls;
 use acked_bitrate_estimator::AckedBitrateEstimator;
+use acked_bitrate_estimator::Known;
+use acked_bitrate_estimator::OptionKnown;
 use bandwidth::BandwidthUsage;
 use bandwidth::Bitrate;
 use bandwidth::DataSize;
@@ -199,10 +202,36 @@ fn data_size(n: u64) -> DataSize
     DataSize(n as i64)
 }
 
+// A report to an estimator that has an estimate and a last packet.
+fn acknowledge_known(known: Known, remotes: &[u64], sizes: &[u64]) -> Acknowledged
+    ensures { λ r. ⌜ (r .acked ≡ Calls.acknowledge (estimator known) (now (remotes .entry)) (now (sizes .entry)))
+        × (r .«sums_in» ≡ Calls.sumsIn (estimator known) (now (remotes .entry)) (now (sizes .entry))) ⌝ }
+{
+    let mut known = known;
+    let mut sums_in = true;
+    let mut i = 0;
+    while i < remotes.len() {
+        if sizes.len() <= i {
+            let acked = known.estimator();
+            return Acknowledged { acked, sums_in };
+        }
+        known = known.update(remotes[i], data_size(sizes[i]));
+        let sum = known.sum;
+        sums_in = sums_in & !MOST_BYTES.lt(sum);
+        i += 1;
+    }
+    let acked = known.estimator();
+    Acknowledged { acked, sums_in }
+}
+
 fn acknowledge(acked: AckedBitrateEstimator, remotes: &[u64], sizes: &[u64]) -> Acknowledged
     ensures { λ r. ⌜ (r .acked ≡ Calls.acknowledge acked (now (remotes .entry)) (now (sizes .entry)))
         × (r .«sums_in» ≡ Calls.sumsIn acked (now (remotes .entry)) (now (sizes .entry))) ⌝ }
 {
+    let known = acked.known();
+    if let OptionKnown::Some(known) = known {
+        return acknowledge_known(known, remotes, sizes);
+    }
     let mut acked = acked;
     let mut sums_in = true;
     let mut i = 0;

@@ -1,0 +1,33 @@
+-- What is left of the packets gives the estimator and the answer of all.
+use Prim.Native.Nat.{_≤_, _-_}
+use native.Mathlib.Omega.{arith}
+use mathlib.Core.Path.{refl}
+use lib.ListN.{length}
+use borrow.Author.Needs.{needs}
+use Rattle.acked_bitrate_estimator.specs.Known.{estimator}
+use Rattle.link.proofs.Laws.{Left, left-turn, remotes-end, sizes-end}
+use Rattle.link.proofs.acknowledge_known.Statement.{statement}
+use Rattle.link.proofs.acknowledge_known.Tie as tie
+
+abbrev Inv-loop : tie.InvT-loop
+Inv-loop remotes sizes known₀ sums-in₀ i₀ known sums-in i = (i ≤ length remotes) × Left remotes sizes (estimator known₀) (estimator known) sums-in i
+
+abbrev μ-loop : tie.MeasureT-loop
+μ-loop remotes sizes known₀ sums-in₀ i₀ known sums-in i = length remotes - i
+
+loop-holds : tie.Need-loop-holds Inv-loop μ-loop
+loop-holds c = (omega arith, record { acked = refl; sums = refl })
+
+returns : tie.Need-returns Inv-loop μ-loop
+returns c = rw (c .estimator .ensures) (sizes-end (c .before .before .before .loop .inv .1) (c .before .if1 .taken))
+
+loop-again : tie.Need-loop-again Inv-loop μ-loop
+loop-again c = (omega arith, left-turn (c .before .before .before .before .before .before .before .before .loop .inv .1) (omega arith) (omega arith) (c .before .before .before .data-size .ensures) (c .before .before .update .ensures) (c .lt .ensures))
+
+returns-2 : tie.Need-returns-2 Inv-loop μ-loop
+returns-2 c = rw (c .estimator2 .ensures) (remotes-end (c .before .before .loop .inv .1) (c .before .loop-test .left))
+
+pub acknowledge-known-spec : {M : Type 1} → statement M
+acknowledge-known-spec =
+    tie.close
+    (tie.spec Inv-loop μ-loop loop-holds (λ c κs. search needs) returns (λ c. search needs) (λ c. search needs) (λ c. search needs) (λ c. search needs) (λ c κs. search needs) (λ c κs. search needs) (λ c κs. search needs) (λ c. search needs) (λ c. search needs) loop-again (λ c κs. search needs) returns-2)
