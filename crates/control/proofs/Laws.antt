@@ -20,7 +20,7 @@ use Rattle.arrival_group.specs.declared.Joined.{Joined}
 use Rattle.arrival_group.specs.declared.ArrivalGroupAccumulator.{ArrivalGroupAccumulator}
 use Rattle.trendline.specs.declared.TrendlineEstimator.{TrendlineEstimator}
 use Rattle.control.specs.declared.Packets.{Packets}
-use Rattle.control.specs.Control.{add, addAll, addGroup, addGroups, longestRtt, observe, withRtt}
+use Rattle.control.specs.Control.{add, addAll, addGroup, addGroups, longestRtt, maxRttAfter, observe, withRtt}
 
 abbrev pub packets : ArrivalGroupAccumulator → TrendlineEstimator → OptionDuration → Packets
 packets a t m = record { «arrival_group_accumulator» = a; «trendline_estimator» = t; «max_rtt» = m }
@@ -119,23 +119,25 @@ parts-some zero d p (s ∷ sends) (r ∷ remotes) (l ∷ receives) e f = absurd 
 parts-some (suc n) d p (s ∷ sends) (r ∷ remotes) (l ∷ receives) e f =
     parts-some n (max d (l - s)) (add p s r l) sends remotes receives (omega arith) (longest-max (p .«max_rtt») (l - s) ∙ rw f)
 
+-- the greatest round trip, with and without packets
+pub no-rtt : (d : OptionDuration) (sends receives : List ℕ) → length sends ≡ 0 → d ≡ maxRttAfter d sends receives
+unfolding maxRttAfter
+no-rtt d [] receives e = refl
+no-rtt d (s ∷ sends) receives e = absurd (omega arith)
+
+pub some-rtt : (d : OptionDuration) (sends receives : List ℕ) {e rtt : ℕ} → e ≡ durationOr d 0 → rtt ≡ longestRtt e sends receives → ¬ (length sends ≡ 0) → Duration.Some rtt ≡ maxRttAfter d sends receives
+unfolding maxRttAfter
+some-rtt d [] receives e f h = absurd (h refl)
+some-rtt d (s ∷ sends) receives e f h = rw (f, e)
+
 pub add-parts :
     (n : ℕ) (p : Packets) (sends remotes receives : List ℕ) →
     n ≡ min (min (length sends) (length remotes)) (length receives) →
-    0 < n →
-    addAll p sends remotes receives
-    ≡ addGroups (withRtt p (Duration.Some (longestRtt (durationOr (p .«max_rtt») 0) (take n sends) (take n receives)))) (take n sends) (take n remotes)
-unfolding addAll add addGroups addGroup longestRtt
-add-parts n p [] remotes receives e h = absurd (omega arith)
-add-parts n p (s ∷ sends) [] receives e h = absurd (omega arith)
-add-parts n p (s ∷ sends) (r ∷ remotes) [] e h = absurd (omega arith)
-add-parts zero p (s ∷ sends) (r ∷ remotes) (l ∷ receives) e h = absurd (omega arith)
-add-parts (suc n) p (s ∷ sends) (r ∷ remotes) (l ∷ receives) e h =
+    addAll p sends remotes receives ≡ addGroups (withRtt p (maxRttAfter (p .«max_rtt») (take n sends) (take n receives))) (take n sends) (take n remotes)
+unfolding addAll add addGroups addGroup longestRtt maxRttAfter
+add-parts n p [] remotes receives e = let z : n ≡ 0 = omega arith in rw z
+add-parts n p (s ∷ sends) [] receives e = let z : n ≡ 0 = omega arith in rw z
+add-parts n p (s ∷ sends) (r ∷ remotes) [] e = let z : n ≡ 0 = omega arith in rw z
+add-parts zero p (s ∷ sends) (r ∷ remotes) (l ∷ receives) e = absurd (omega arith)
+add-parts (suc n) p (s ∷ sends) (r ∷ remotes) (l ∷ receives) e =
     parts-some n (max (durationOr (p .«max_rtt») 0) (l - s)) (add p s r l) sends remotes receives (omega arith) (longest-max (p .«max_rtt») (l - s))
-
-pub add-nothing : (p : Packets) (sends remotes receives : List ℕ) → 0 ≡ min (min (length sends) (length remotes)) (length receives) → addAll p sends remotes receives ≡ p
-unfolding addAll
-add-nothing p [] remotes receives e = refl
-add-nothing p (s ∷ sends) [] receives e = refl
-add-nothing p (s ∷ sends) (r ∷ remotes) [] e = refl
-add-nothing p (s ∷ sends) (r ∷ remotes) (l ∷ receives) e = absurd (omega arith)

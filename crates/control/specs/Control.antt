@@ -11,6 +11,7 @@ use Rattle.average.specs.declared.OptionF64.{OptionF64}
 use Rattle.average.specs.declared.OptionF64.the-variants as F64
 use Rattle.average.specs.declared.MovingAverage.{MovingAverage}
 use Rattle.bandwidth.specs.Bandwidth as B
+use Rattle.bandwidth.specs.declared.BandwidthUsage.{BandwidthUsage}
 use Rattle.bandwidth.specs.declared.Bitrate.{Bitrate}
 use Rattle.bandwidth.specs.declared.OptionBitrate.{OptionBitrate}
 use Rattle.bandwidth.specs.declared.OptionBitrate.the-variants as Rate
@@ -102,6 +103,11 @@ longestRtt d [] receives = d
 longestRtt d (s ∷ sends) [] = d
 longestRtt d (s ∷ sends) (l ∷ receives) = longestRtt (max d (saturatingDurationSince l s)) sends receives
 
+-- the greatest round trip of the packets before and of these, where there is one
+unfoldable pub maxRttAfter : OptionDuration → List ℕ → List ℕ → OptionDuration
+maxRttAfter d [] receives = d
+maxRttAfter d (s ∷ sends) receives = Duration.Some (longestRtt (durationOr d 0) (s ∷ sends) receives)
+
 -- ---- the smoothed round trip
 unfoldable pub updateRtt : MovingAverage → OptionDuration → MovingAverage
 updateRtt m Duration.None = m
@@ -138,11 +144,14 @@ withPackets c p now =
     }
 
 -- ---- the estimate: a probe's result as it is, else the observed rate where there is one
+abbrev pub rateFrom : OptionBitrate → OptionBitrate → R.RateControl → BandwidthUsage → OptionDuration → ℕ → R.RateControl
+rateFrom (Rate.Some probe) observed rate hypothesis rtt now = RateControl.setProbeResult rate probe now
+rateFrom Rate.None Rate.None rate hypothesis rtt now = rate
+rateFrom Rate.None (Rate.Some observed) rate hypothesis rtt now = RateControl.update rate (RateControl.signal hypothesis) observed rtt now
+
 abbrev pub rateAfter : OptionBitrate → OptionBitrate → DelayController → ℕ → R.RateControl
-rateAfter (Rate.Some probe) observed c now = RateControl.setProbeResult (c .«rate_control») probe now
-rateAfter Rate.None Rate.None c now = c .«rate_control»
-rateAfter Rate.None (Rate.Some observed) c now =
-    RateControl.update (c .«rate_control») (RateControl.signal (c .«trendline_estimator» .hypothesis)) observed (getSmoothedRtt c) now
+rateAfter probe observed c now =
+    rateFrom probe observed (c .«rate_control») (c .«trendline_estimator» .hypothesis) (getSmoothedRtt c) now
 
 unfoldable pub updateEstimate : DelayController → OptionBitrate → OptionBitrate → ℕ → DelayController
 updateEstimate c observed probe now = withRate c (rateAfter probe observed c now) (saturatingAdd now updateInterval)

@@ -39,6 +39,12 @@ pub struct Packets {
     pub max_rtt: OptionDuration,
 }
 
+// What a timeout changes of a controller.
+struct Timed {
+    rate_control: RateControl,
+    next_timeout: u64,
+}
+
 // The longest of a duration and of the packets' round trips.
 fn longest_rtt(duration: u64, local_send_times: &[u64], local_recv_times: &[u64]) -> u64
     ensures { λ r. ⌜ r ≡ Control.longestRtt duration (now («local_send_times» .entry)) (now («local_recv_times» .entry)) ⌝ }
@@ -56,6 +62,24 @@ fn longest_rtt(duration: u64, local_send_times: &[u64], local_recv_times: &[u64]
         i += 1;
     }
     longest
+}
+
+// The greatest round trip of the packets before and of these, where there is one.
+fn max_rtt_after(
+    max_rtt: OptionDuration,
+    local_send_times: &[u64],
+    local_recv_times: &[u64],
+) -> OptionDuration
+    ensures { λ r. ⌜ r ≡ Control.maxRttAfter «max_rtt» (now («local_send_times» .entry)) (now («local_recv_times» .entry)) ⌝ }
+{
+    if local_send_times.len() == 0 {
+        return max_rtt;
+    }
+    OptionDuration::Some(longest_rtt(
+        time::duration_or(max_rtt, 0),
+        local_send_times,
+        local_recv_times,
+    ))
 }
 
 fn shorter(a: usize, b: usize) -> usize
@@ -132,20 +156,9 @@ impl Packets {
             shorter(local_send_times.len(), remote_recv_times.len()),
             local_recv_times.len(),
         );
-        if n == 0 {
-            return self;
-        }
-        let max_rtt = self.max_rtt;
-        let rtt = longest_rtt(
-            time::duration_or(max_rtt, 0),
-            &local_send_times[0..n],
-            &local_recv_times[0..n],
-        );
-        self.add_groups(
-            OptionDuration::Some(rtt),
-            &local_send_times[0..n],
-            &remote_recv_times[0..n],
-        )
+        let before = self.max_rtt;
+        let max_rtt = max_rtt_after(before, &local_send_times[0..n], &local_recv_times[0..n]);
+        self.add_groups(max_rtt, &local_send_times[0..n], &remote_recv_times[0..n])
     }
 }
 
@@ -198,11 +211,7 @@ impl DelayController {
         ensures { λ r. ⌜ r ≡ Control.getSmoothedRtt self ⌝ }
     {
         let smoothed_rtt = self.smoothed_rtt;
-        let average = smoothed_rtt.get();
-        match average {
-            OptionF64::None => OptionDuration::None,
-            OptionF64::Some(secs) => OptionDuration::Some(seconds::from_secs_f64(secs)),
-        }
+        rtt_of(smoothed_rtt)
     }
 
     // The rate control after an update, and the next timeout.
@@ -213,51 +222,6 @@ impl DelayController {
         next.rate_control = rate_control;
         next.next_timeout = next_timeout;
         next
-    }
-
-    // The state after a report's packets: groups, trendline and smoothed round trip; and when it was taken.
-    fn with_packets(self, packets: Packets, now: u64) -> Self
-        ensures { λ r. ⌜ r ≡ Control.withPackets self packets now ⌝ }
-    {
-        let arrival_group_accumulator = packets.arrival_group_accumulator;
-        let trendline_estimator = packets.trendline_estimator;
-        let max_rtt = packets.max_rtt;
-        let rate_control = self.rate_control;
-        let smoothed = self.smoothed_rtt;
-        let smoothed_rtt = update_rtt(smoothed, max_rtt);
-        Self {
-            arrival_group_accumulator,
-            trendline_estimator,
-            rate_control,
-            smoothed_rtt,
-            next_timeout: self.next_timeout,
-            last_twcc_report: OptionInstant::Some(now),
-        }
-    }
-
-    // A probe's result is applied as it is; else the observed rate, where there is one, goes to the rate control.
-    fn update_estimate(
-        self,
-        observed_bitrate: OptionBitrate,
-        probe_bitrate: OptionBitrate,
-        now: u64,
-    ) -> Self
-        ensures { λ r. ⌜ r ≡ Control.updateEstimate self «observed_bitrate» «probe_bitrate» now ⌝ }
-    {
-        let rate_control = self.rate_control;
-        let next_timeout = time::saturating_add(now, UPDATE_INTERVAL);
-        if let OptionBitrate::Some(probe) = probe_bitrate {
-            return self.with_rate(rate_control.set_probe_result(probe, now), next_timeout);
-        }
-        let OptionBitrate::Some(observed) = observed_bitrate else {
-            return self.with_rate(rate_control, next_timeout);
-        };
-        let signal = Signal::from(self.hypothesis());
-        let rtt = self.get_smoothed_rtt();
-        self.with_rate(
-            rate_control.update(signal, observed, rtt, now),
-            next_timeout,
-        )
     }
 
     // The smoothed round trip, at most 25 ms.
@@ -302,20 +266,98 @@ impl DelayController {
             max_rtt: OptionDuration::None,
         };
         let fed = packets.add_all(local_send_times, remote_recv_times, local_recv_times);
-        self.with_packets(fed, moment)
-            .update_estimate(acked_bitrate, probe_bitrate, moment)
+        let arrival_group_accumulator = fed.arrival_group_accumulator;
+        let trendline_estimator = fed.trendline_estimator;
+        let max_rtt = fed.max_rtt;
+        let smoothed = self.smoothed_rtt;
+        let smoothed_rtt = update_rtt(smoothed, max_rtt);
+        let rate = self.rate_control;
+        let rate_control = rate_from(
+            probe_bitrate,
+            acked_bitrate,
+            rate,
+            trendline_estimator.hypothesis(),
+            smoothed_rtt,
+            moment,
+        );
+        Self {
+            arrival_group_accumulator,
+            trendline_estimator,
+            rate_control,
+            smoothed_rtt,
+            next_timeout: time::saturating_add(moment, UPDATE_INTERVAL),
+            last_twcc_report: OptionInstant::Some(moment),
+        }
     }
 
-    // A timeout. A hypothesis that is too old waits for the next report.
+    // What a timeout changes. A hypothesis that is too old waits for the next report.
+    fn timed(self, acked_bitrate: OptionBitrate, now: u64) -> Timed
+        ensures { λ r. ⌜ Control.withRate self (r .«rate_control») (r .«next_timeout») ≡ Control.handleTimeout self «acked_bitrate» now ⌝ }
+    {
+        let rate_control = self.rate_control;
+        let smoothed_rtt = self.smoothed_rtt;
+        if self.trendline_hypothesis_valid(now) {
+            return Timed {
+                rate_control: rate_from(
+                    OptionBitrate::None,
+                    acked_bitrate,
+                    rate_control,
+                    self.hypothesis(),
+                    smoothed_rtt,
+                    now,
+                ),
+                next_timeout: time::saturating_add(now, UPDATE_INTERVAL),
+            };
+        }
+        Timed {
+            rate_control,
+            next_timeout: time::saturating_add(now, self.wait()),
+        }
+    }
+
     pub fn handle_timeout(self, acked_bitrate: OptionBitrate, now: u64) -> Self
         ensures { λ r. ⌜ r ≡ Control.handleTimeout self «acked_bitrate» now ⌝ }
     {
-        if self.trendline_hypothesis_valid(now) {
-            return self.update_estimate(acked_bitrate, OptionBitrate::None, now);
-        }
-        let rate_control = self.rate_control;
-        self.with_rate(rate_control, time::saturating_add(now, self.wait()))
+        let timed = self.timed(acked_bitrate, now);
+        let rate_control = timed.rate_control;
+        self.with_rate(rate_control, timed.next_timeout)
     }
+}
+
+// A smoothed round trip in ns: the nearest, ties to even.
+fn rtt_of(smoothed_rtt: MovingAverage) -> OptionDuration
+    ensures { λ r. ⌜ r ≡ Control.rttOf («smoothed_rtt» .average) ⌝ }
+{
+    let average = smoothed_rtt.get();
+    match average {
+        OptionF64::None => OptionDuration::None,
+        OptionF64::Some(secs) => OptionDuration::Some(seconds::from_secs_f64(secs)),
+    }
+}
+
+// A probe's result is applied as it is; else the observed rate, where there is one, goes to the rate control.
+fn rate_from(
+    probe_bitrate: OptionBitrate,
+    observed_bitrate: OptionBitrate,
+    rate_control: RateControl,
+    hypothesis: BandwidthUsage,
+    smoothed_rtt: MovingAverage,
+    now: u64,
+) -> RateControl
+    ensures { λ r. ⌜ r ≡ Control.rateFrom «probe_bitrate» «observed_bitrate» «rate_control» hypothesis (Control.rttOf («smoothed_rtt» .average)) now ⌝ }
+{
+    if let OptionBitrate::Some(probe) = probe_bitrate {
+        return rate_control.set_probe_result(probe, now);
+    }
+    let OptionBitrate::Some(observed) = observed_bitrate else {
+        return rate_control;
+    };
+    rate_control.update(
+        Signal::from(hypothesis),
+        observed,
+        rtt_of(smoothed_rtt),
+        now,
+    )
 }
 
 // The smoothed round trip after a report's greatest.
