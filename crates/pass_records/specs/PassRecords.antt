@@ -3,7 +3,7 @@ use Prim.Native.Nat.{ℕ, zero, suc, _+_, _*_, _-_, _/_, _%_}
 use mathlib.Core.Bool.{Bool, _&&_, cond}
 use mathlib.Core.List.{List, [], _∷_}
 use lib.Dec.{eqb, ltb, leb}
-use lib.ListN.{length}
+use lib.ListN.{length, take, drop}
 use Rattle.le_bytes.specs.LeBytes.{le}
 use Rattle.pass_records.specs.declared.Following.{Following}
 use Rattle.pass_records.specs.declared.Following.the-variants.{Next, End, BadKind, BadNext}
@@ -64,6 +64,10 @@ receive file k = le 8 file (base k + 32)
 
 abbrev pub probeBits : List ℕ → ℕ → ℕ
 probeBits file k = le 8 file (base k + 40)
+
+-- the bytes of record k, fewer at the file's end; its fields are those of record 1 of them
+abbrev pub recordAt : List ℕ → ℕ → List ℕ
+recordAt file k = take recordBytes (drop (base k) file)
 
 -- ---- the chain
 -- question 11: the kind is 1 to 3, and a report's flag 0 or 1
