@@ -20,6 +20,9 @@ use Rattle.pass_records.specs.PassRecords.{
   remote,
   receive,
   probeBits,
+  wellFormed,
+  follows,
+  successor,
 }
 
 -- what `&file[start..end]` holds where it starts and ends with record k
@@ -66,3 +69,8 @@ module _ (file : List ℕ) (k : ℕ) where
   probe-record = le-record 8 40 (omega arith)
 
 pub ruleset record-fields = (next-record, kind-record, flag-record, size-record, sequence-record, send-record, remote-record, receive-record, probe-record)
+
+-- ---- what follows
+pub successor-record : (file : List ℕ) (k last : ℕ) → successor (recordAt file k) last k ≡ follows file last k
+unfolding successor follows wellFormed
+successor-record file k last = simp record-fields
