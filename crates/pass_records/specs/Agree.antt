@@ -1,11 +1,10 @@
 -- Files that agree along a chain: records that are not linked do not matter.
-use Prim.Native.Nat.{ℕ, zero, suc, _+_, _-_, _≤_, _<_}
+use Prim.Native.Nat.{ℕ, zero, suc, _+_, _-_, _≤_}
 use mathlib.Core.Path.{_≡_, refl, sym, ap, _∙_}
 use mathlib.Core.List.{List, [], _∷_, List·Memᴰ, List·Memᴰ·head, List·Memᴰ·tail}
-use native.Mathlib.Nat.{add-zero, add-suc}
+use native.Mathlib.Nat.{add-zero}
 use native.Mathlib.Omega.{arith}
-use lib.ListN.{length, getD, take, drop}
-use lib.Seq.{getD-take, getD-drop}
+use lib.ListN.{length}
 use Rattle.le_bytes.specs.LeBytes.{le}
 use Rattle.pass_records.specs.declared.Following.{Following}
 use Rattle.pass_records.specs.declared.Following.the-variants.{Next, End, BadKind, BadNext}
@@ -13,6 +12,7 @@ use Rattle.pass_records.specs.PassRecords.{
   recordBytes,
   recordCount,
   base,
+  recordAt,
   next,
   kind,
   flag,
@@ -31,18 +31,12 @@ use Rattle.pass_records.specs.PassRecords.{
   judgeAlong,
   judge,
 }
-
--- the bytes of record k
-abbrev pub recordAt : List ℕ → ℕ → List ℕ
-recordAt file k = take recordBytes (drop (base k) file)
+use Rattle.pass_records.specs.Record.{le-record}
 
 -- two files of one length, with the same records along the chain of the first
 pub record Agree (f g : List ℕ) : Type 0 where
   pub lengths : length f ≡ length g
   pub records : (k : ℕ) → List·Memᴰ k (chain f) → recordAt f k ≡ recordAt g k
-
-byte-at : (file : List ℕ) (k i : ℕ) → i < recordBytes → getD (recordAt file k) i 0 ≡ getD file (base k + i) 0
-byte-at file k i h = getD-take recordBytes (drop (base k) file) i 0 h ∙ getD-drop (base k) file i 0
 
 module _ (f g : List ℕ) where
   -- ---- a record's fields
@@ -57,13 +51,8 @@ module _ (f g : List ℕ) where
     pub receives : receive f k ≡ receive g k
     pub probes : probeBits f k ≡ probeBits g k
 
-  byte-same : (k i : ℕ) → recordAt f k ≡ recordAt g k → i < recordBytes → getD f (base k + i) 0 ≡ getD g (base k + i) 0
-  byte-same k i e h = sym (rw e at (byte-at f k i h)) ∙ byte-at g k i h
-
   le-same : (k at n : ℕ) → recordAt f k ≡ recordAt g k → at + n ≤ recordBytes → le n f (base k + at) ≡ le n g (base k + at)
-  unfolding le
-  le-same k at zero e h = refl
-  le-same k at (suc n) e h = rw (byte-same k at e (omega arith), ← add-suc, le-same k (suc at) n e (omega arith))
+  le-same k at n e h = sym (le-record f k n at h) ∙ rw e (le-record g k n at h)
 
   pub same-fields : (k : ℕ) → recordAt f k ≡ recordAt g k → SameFields k
   same-fields k e = record {

@@ -1,4 +1,5 @@
 pub mod PassRecords
+pub mod Record
 pub mod Laws
 pub mod Rows
 pub mod Agree

@@ -3,7 +3,7 @@ use Prim.Native.Nat.{ℕ, zero, suc, _+_, _*_, _-_, _/_, _%_}
 use mathlib.Core.Bool.{Bool, _&&_, cond}
 use mathlib.Core.List.{List, [], _∷_}
 use lib.Dec.{eqb, ltb, leb}
-use lib.ListN.{length}
+use lib.ListN.{length, take, drop}
 use Rattle.le_bytes.specs.LeBytes.{le}
 use Rattle.pass_records.specs.declared.Following.{Following}
 use Rattle.pass_records.specs.declared.Following.the-variants.{Next, End, BadKind, BadNext}
@@ -65,17 +65,26 @@ receive file k = le 8 file (base k + 32)
 abbrev pub probeBits : List ℕ → ℕ → ℕ
 probeBits file k = le 8 file (base k + 40)
 
+-- the bytes of record k, fewer at the file's end; its fields are those of record 1 of them
+abbrev pub recordAt : List ℕ → ℕ → List ℕ
+recordAt file k = take recordBytes (drop (base k) file)
+
 -- ---- the chain
 -- question 11: the kind is 1 to 3, and a report's flag 0 or 1
 unfoldable pub wellFormed : List ℕ → ℕ → Bool
 wellFormed file k = cond (eqb (kind file k) report) (leb (flag file k) 1) (leb packet (kind file k) && leb (kind file k) timeout)
 
--- what follows record k of `last` records: question 11, then 12, next is 0, or above k and not past the last
+-- what follows record k of `last` records, by whether it is well formed and the number that it names: question 11, then 12, the number is 0, or above k and not past the last
+abbrev pub followsBy : Bool → ℕ → ℕ → ℕ → Following
+followsBy formed n last k = cond formed (cond (eqb n 0) End (cond (ltb k n && leb n last) (Next n) BadNext)) BadKind
+
+-- what follows record k of a file
 unfoldable pub follows : List ℕ → ℕ → ℕ → Following
-follows file last k =
-    cond (wellFormed file k)
-    (cond (eqb (next file k) 0) End (cond (ltb k (next file k) && leb (next file k) last) (Next (next file k)) BadNext))
-    BadKind
+follows file last k = followsBy (wellFormed file k) (next file k) last k
+
+-- the same by the bytes of record k alone
+unfoldable pub successor : List ℕ → ℕ → ℕ → Following
+successor bytes last k = followsBy (wellFormed bytes 1) (next bytes 1) last k
 
 abbrev pub onward : Following → (ℕ → List ℕ) → List ℕ
 onward (Next n) rest = rest n

@@ -1,6 +1,6 @@
 // The records of a pass file, and the chain that links them. A record has 48 bytes, and records are numbered from 1.
 ghost use mathlib.Core.Path.{_≡_};
-ghost use Prim.Native.Nat.{_+_, _<_, min};
+ghost use Prim.Native.Nat.{_+_, _*_, _<_, _≤_, min};
 ghost use lib.ListN.{length};
 ghost use Rattle.le_bytes.specs.LeBytes.{le};
 ghost use Rattle.pass_records.specs.PassRecords as Records;
@@ -164,14 +164,33 @@ pub fn follows(file: &[u8], last: usize, k: usize) -> Following
     Following::BadNext
 }
 
-// The first no along the chain of a file of `last` records.
+// What follows record k of `last` records, by that record's own bytes.
+pub fn successor(bytes: &[u8], last: usize, k: usize) -> Following
+    ensures { λ r. ⌜ r ≡ Records.successor (now (bytes .entry)) last k ⌝ }
+{
+    if !well_formed(bytes, 1) {
+        return Following::BadKind;
+    }
+    let named = next(bytes, 1) as usize;
+    if named == 0 {
+        return Following::End;
+    }
+    if (k < named) & (named <= last) {
+        return Following::Next(named);
+    }
+    Following::BadNext
+}
+
+// The first no along the chain of a file that has `last` records or more.
 fn judge_chain(file: &[u8], last: usize) -> Judged
-    requires { ⌜ 0 < last ⌝ }
+    requires { ⌜ (0 < last) × (last * Records.recordBytes ≤ length (now file)) ⌝ }
     ensures { λ r. ⌜ r ≡ Records.judgeAlong (now (file .entry)) last (Records.chainFrom (now (file .entry)) last 1) ⌝ }
 {
     let mut k = 1;
     loop {
-        match follows(file, last, k) {
+        let start = (k - 1) * RECORD_BYTES;
+        let end = start + RECORD_BYTES;
+        match successor(&file[start..end], last, k) {
             Following::Next(n) => {
                 k = n;
             }
