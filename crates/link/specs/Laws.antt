@@ -5,7 +5,7 @@ use Prim.Native.Nat.{ℕ, _≤_}
 use native.Mathlib.Omega.{arith}
 use mathlib.Core.Path.{_≡_, refl, _∙_}
 use mathlib.Core.Bool.{Bool, true, false, _&&_}
-use mathlib.Core.List.{List}
+use mathlib.Core.List.{List, [], _∷_}
 use lib.Dec.{eqb, leb}
 use lib.ListN.{length}
 use borrow.Author.Tests.{eqb-true, leb-true}
@@ -16,9 +16,12 @@ use Rattle.receive_order.specs.Laws.{ordered-sorted}
 use Rattle.link_state.specs.State.{inRange}
 use Rattle.link_state.specs.declared.Link.{Link}
 use Rattle.link.specs.Link.{
+  Question,
   Report,
   acceptedWith,
+  byForm,
   firstNo,
+  formQuestions,
   inOrder,
   instantsIn,
   listsIn,
@@ -30,6 +33,7 @@ use Rattle.link.specs.Link.{
   probeIn,
   processed,
   processedUnsorted,
+  question,
   refusedBy,
   report,
   reportInRange,
@@ -150,6 +154,33 @@ module _ (l : Link) (r : Report) where
 
             pub report-yes : sumsIn (l .acked) (inOrder r (r .remotes)) (inOrder r (r .sizes)) ≡ true → reportInRange l r ≡ acceptedWith (updated l r)
             report-yes y9 = report-processed ∙ processed-yes l _ _ _ _ _ _ y9
+
+-- ---- a report by its form
+module _ (r : Report) where
+  -- what a no among the first questions is, is that of all
+  by-form : (a b c d e f : Bool) (l : Link) (after : Link)
+      → outcomeUnless (firstNo (question 4 a ∷ question 5 b ∷ question 6 c ∷ question 7 d ∷ question 8 e ∷ question 9 f ∷ [])) l after
+      ≡ byForm (firstNo (question 4 a ∷ question 5 b ∷ question 6 c ∷ question 7 d ∷ question 8 e ∷ [])) l (outcomeUnless (firstNo (question 9 f ∷ [])) l after)
+  unfolding firstNo outcomeUnless
+  by-form false b c d e f l after = refl
+  by-form true false c d e f l after = refl
+  by-form true true false d e f l after = refl
+  by-form true true true false e f l after = refl
+  by-form true true true true false f l after = refl
+  by-form true true true true true f l after = refl
+
+  pub report-by-form : (l : Link) {n : ℕ} → n ≡ firstNo (formQuestions r) → reportInRange l r ≡ byForm n l (processedUnsorted l r)
+  unfolding reportInRange reportQuestions formQuestions processed
+  report-by-form l e = rw e (by-form _ _ _ _ _ _ l (updated l r))
+
+  form-lists : (a : Bool) (qs : List Question) → 0 ≡ firstNo (question 4 a ∷ qs) → a ≡ true
+  unfolding firstNo
+  form-lists true qs e = refl
+  form-lists false qs e = absurd (omega arith)
+
+  pub good-lists : 0 ≡ firstNo (formQuestions r) → listsIn (r .sequences) (r .sizes) (r .sends) (r .remotes) (r .receives) ≡ true
+  unfolding formQuestions
+  good-lists e = form-lists _ _ e
 
 -- ---- timeout
 module _ (l : Link) (now : ℕ) where

@@ -25,6 +25,8 @@ use Rattle.link.specs.declared.Opened.{Opened}
 use Rattle.link.specs.declared.Opened.the-variants as Opened
 use Rattle.link.specs.declared.Answer.{Answer}
 use Rattle.link.specs.declared.Answer.the-variants as Answer
+use Rattle.link.specs.declared.ReportForm.{ReportForm}
+use Rattle.link.specs.declared.ReportForm.the-variants as Form
 use Rattle.link.specs.declared.Called.{Called}
 
 -- ---- questions
@@ -91,6 +93,11 @@ reply Answer.BadMoment = refused 7
 reply Answer.BadProbe = refused 8
 reply Answer.TooManyBytes = refused 9
 
+-- the number of the question that turned a call down, or 0
+abbrev pub refusal : Reply → ℕ
+refusal (accepted e u t) = 0
+refusal (refused n) = n
+
 pub record Outcome : Type 0 where
   pub reply : Reply
   pub link : Link
@@ -137,6 +144,10 @@ abbrev pub report-of : List ℕ → List ℕ → List ℕ → List ℕ → List 
 report-of sequences sizes sends remotes receives probe now =
     record { sequences = sequences; sizes = sizes; sends = sends; remotes = remotes; receives = receives; probe = probe; now = now }
 
+-- the most packets of a report
+abbrev pub mostPackets : ℕ
+mostPackets = 1024
+
 abbrev pub mostInstant : ℕ
 mostInstant = 10 ^ 18
 
@@ -155,7 +166,7 @@ allAtLeast least xs = every (λ x. leb least x) xs
 unfoldable pub listsIn : List ℕ → List ℕ → List ℕ → List ℕ → List ℕ → Bool
 listsIn sequences sizes sends remotes receives =
     let n = length sequences in
-    eqb (length sizes) n && eqb (length sends) n && eqb (length remotes) n && eqb (length receives) n && leb n 1024
+    eqb (length sizes) n && eqb (length sends) n && eqb (length remotes) n && eqb (length receives) n && leb n mostPackets
 
 -- 5: are all instants at most 10^18?
 unfoldable pub instantsIn : List ℕ → List ℕ → List ℕ → Bool
@@ -219,6 +230,24 @@ reportQuestions l r =
 unfoldable pub report : Link → Report → Outcome
 report l r = outcomeUnless (firstNo (reportQuestions l r)) l (updated l r)
 
+-- questions 4 to 8, which are of the report alone
+unfoldable pub formQuestions : Report → List Question
+formQuestions r =
+    question 4 (listsIn (r .sequences) (r .sizes) (r .sends) (r .remotes) (r .receives))
+    ∷ question 5 (instantsIn (r .sends) (r .remotes) (r .receives))
+    ∷ question 6 (sizesIn (r .sizes))
+    ∷ question 7 (momentIn (r .now))
+    ∷ question 8 (probeIn (r .probe))
+    ∷ []
+
+abbrev pub formNumber : ReportForm → ℕ
+formNumber Form.Good = 0
+formNumber Form.BadLists = 4
+formNumber Form.BadInstant = 5
+formNumber Form.BadSize = 6
+formNumber Form.BadMoment = 7
+formNumber Form.BadProbe = 8
+
 -- the same without question 1
 abbrev pub afterFirst : List Question → List Question
 afterFirst [] = []
@@ -234,6 +263,11 @@ processed l sizes sends remotes receives probe now =
 
 abbrev pub processedUnsorted : Link → Report → Outcome
 processedUnsorted l r = processed l (inOrder r (r .sizes)) (inOrder r (r .sends)) (inOrder r (r .remotes)) (inOrder r (r .receives)) (r .probe) (r .now)
+
+-- refused by its form, or as it is processed
+abbrev pub byForm : ℕ → Link → Outcome → Outcome
+byForm zero l o = o
+byForm (suc n) l o = refusedBy (suc n) l
 
 -- ---- timeout
 unfoldable pub timedOut : Link → ℕ → Link

@@ -32,6 +32,50 @@ pub enum Answer {
     TooManyBytes,
 }
 
+impl Answer {
+    // The number of the question that turned the call down, or 0.
+    pub fn number(self) -> u64
+        ensures { λ r. ⌜ r ≡ Calls.refusal (Calls.reply self) ⌝ }
+    {
+        match self {
+            Answer::Accepted(_) => 0,
+            Answer::OutOfRange => 1,
+            Answer::BadLists => 4,
+            Answer::BadInstant => 5,
+            Answer::BadSize => 6,
+            Answer::BadMoment => 7,
+            Answer::BadProbe => 8,
+            Answer::TooManyBytes => 9,
+        }
+    }
+}
+
+// What questions 4 to 8 say of a report, whatever the link.
+pub enum ReportForm {
+    Good,
+    BadLists,
+    BadInstant,
+    BadSize,
+    BadMoment,
+    BadProbe,
+}
+
+impl ReportForm {
+    // The number of the first question that is answered with no, or 0.
+    pub fn number(self) -> u64
+        ensures { λ r. ⌜ r ≡ Calls.formNumber self ⌝ }
+    {
+        match self {
+            ReportForm::Good => 0,
+            ReportForm::BadLists => 4,
+            ReportForm::BadInstant => 5,
+            ReportForm::BadSize => 6,
+            ReportForm::BadMoment => 7,
+            ReportForm::BadProbe => 8,
+        }
+    }
+}
+
 pub struct Called {
     pub answer: Answer,
     pub link: Link,
@@ -49,6 +93,9 @@ pub enum Opened {
     BadStartBitrate,
     BadWindow,
 }
+
+// The most packets of a report.
+pub const MOST_PACKETS: usize = 1024;
 
 const MOST_INSTANT: u64 = 1_000_000_000_000_000_000;
 
@@ -110,7 +157,7 @@ fn lists_in(
         & (sends.len() == n)
         & (remotes.len() == n)
         & (receives.len() == n)
-        & (n <= 1024)
+        & (n <= MOST_PACKETS)
 }
 
 fn all_at_most(xs: &[u64], most: u64) -> bool
@@ -145,7 +192,7 @@ fn instants_in(sends: &[u64], remotes: &[u64], receives: &[u64]) -> bool
         & all_at_most(receives, MOST_INSTANT)
 }
 
-fn moment_in(now: u64) -> bool
+pub fn moment_in(now: u64) -> bool
     ensures { λ r. ⌜ r ≡ Calls.momentIn now ⌝ }
 {
     (now <= MOST_INSTANT) & (now % 1_000_000 == 0)
@@ -188,9 +235,9 @@ fn accepted(link: Link) -> Called
 }
 
 // The acknowledged-rate estimator after a report's packets, and whether its byte sum stayed in its limit.
-struct Acknowledged {
-    acked: AckedBitrateEstimator,
-    sums_in: bool,
+pub struct Acknowledged {
+    pub acked: AckedBitrateEstimator,
+    pub sums_in: bool,
 }
 
 fn data_size(n: u64) -> DataSize
@@ -224,7 +271,8 @@ fn acknowledge_known(known: Known, remotes: &[u64], sizes: &[u64]) -> Acknowledg
     Acknowledged { acked, sums_in }
 }
 
-fn acknowledge(acked: AckedBitrateEstimator, remotes: &[u64], sizes: &[u64]) -> Acknowledged
+// Question 9 and the estimator that it asks of, for packets in the order of receipt.
+pub fn acknowledge(acked: AckedBitrateEstimator, remotes: &[u64], sizes: &[u64]) -> Acknowledged
     ensures { λ r. ⌜ (r .acked ≡ Calls.acknowledge acked (now (remotes .entry)) (now (sizes .entry)))
         × (r .«sums_in» ≡ Calls.sumsIn acked (now (remotes .entry)) (now (sizes .entry))) ⌝ }
 {
@@ -312,6 +360,36 @@ fn process_unsorted(
     )
 }
 
+// Questions 4 to 8.
+pub fn report_form(
+    sequences: &[u64],
+    sizes: &[u64],
+    sends: &[u64],
+    remotes: &[u64],
+    receives: &[u64],
+    probe: OptionBitrate,
+    moment: u64,
+) -> ReportForm
+    ensures { λ r. ⌜ Calls.formNumber r ≡ Calls.firstNo (Calls.formQuestions (Calls.report-of (now (sequences .entry)) (now (sizes .entry)) (now (sends .entry)) (now (remotes .entry)) (now (receives .entry)) probe moment)) ⌝ }
+{
+    if !lists_in(sequences, sizes, sends, remotes, receives) {
+        return ReportForm::BadLists;
+    }
+    if !instants_in(sends, remotes, receives) {
+        return ReportForm::BadInstant;
+    }
+    if !all_at_least(sizes, 1) {
+        return ReportForm::BadSize;
+    }
+    if !moment_in(moment) {
+        return ReportForm::BadMoment;
+    }
+    if !probe_in(probe) {
+        return ReportForm::BadProbe;
+    }
+    ReportForm::Good
+}
+
 // A report to a link that is in range, as every link that a run reaches is (crates/link_runs): question 1 is not put.
 pub fn report_in_range(
     link: Link,
@@ -325,31 +403,23 @@ pub fn report_in_range(
 ) -> Called
     ensures { λ r. ⌜ Calls.outcome r ≡ Calls.reportInRange link (Calls.report-of (now (sequences .entry)) (now (sizes .entry)) (now (sends .entry)) (now (remotes .entry)) (now (receives .entry)) probe moment) ⌝ }
 {
-    if !lists_in(sequences, sizes, sends, remotes, receives) {
-        return refused(Answer::BadLists, link);
+    match report_form(sequences, sizes, sends, remotes, receives, probe, moment) {
+        ReportForm::Good => process_unsorted(
+            link,
+            sequences,
+            sizes,
+            sends,
+            remotes,
+            receives,
+            probe,
+            moment,
+        ),
+        ReportForm::BadLists => refused(Answer::BadLists, link),
+        ReportForm::BadInstant => refused(Answer::BadInstant, link),
+        ReportForm::BadSize => refused(Answer::BadSize, link),
+        ReportForm::BadMoment => refused(Answer::BadMoment, link),
+        ReportForm::BadProbe => refused(Answer::BadProbe, link),
     }
-    if !instants_in(sends, remotes, receives) {
-        return refused(Answer::BadInstant, link);
-    }
-    if !all_at_least(sizes, 1) {
-        return refused(Answer::BadSize, link);
-    }
-    if !moment_in(moment) {
-        return refused(Answer::BadMoment, link);
-    }
-    if !probe_in(probe) {
-        return refused(Answer::BadProbe, link);
-    }
-    process_unsorted(
-        link,
-        sequences,
-        sizes,
-        sends,
-        remotes,
-        receives,
-        probe,
-        moment,
-    )
 }
 
 // A report: its packets as five lists, a probe's result or none, and the moment.
