@@ -529,6 +529,7 @@ impl Groups {
                 delta: OptionDelta::None,
             };
         }
-        self.accumulate_rounded(rounded(origin, local_send_time - origin), remote_recv_time)
+        let send = rounded(origin, local_send_time - origin);
+        self.accumulate_rounded(send, remote_recv_time)
     }
 }
