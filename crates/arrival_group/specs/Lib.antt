@@ -1,5 +1,5 @@
 pub mod ArrivalGroup
 pub mod Laws
 pub mod Rows
-pub mod Join
-pub mod JoinLaws
+pub mod Groups
+pub mod GroupsLaws

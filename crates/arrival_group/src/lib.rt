@@ -1,9 +1,8 @@
 // src/bwe/delay/arrival_group.rs: packets sent together, and the delays between such groups. Group size and sequence numbers reach no answer.
 ghost use mathlib.Core.Path.{_≡_};
 ghost use Prim.Native.Nat.{_≤_, max};
-ghost use lib.ListN.{drop};
 ghost use Rattle.arrival_group.specs.ArrivalGroup as Group;
-ghost use Rattle.arrival_group.specs.Join as Join;
+ghost use Rattle.arrival_group.specs.Groups as Plain;
 use time::OptionDuration;
 use time::OptionInstant;
 use time::TimeDelta;
@@ -15,9 +14,7 @@ const SEND_TIME_GROUP_LENGTH: u64 = 5_000_000;
 
 const MAX_BURST_DURATION: u64 = 100_000_000;
 
-// The last instant of a packet, and of an accumulator, whose sums fit a u64.
-const MAX_PACKET_TIME: u64 = 1_000_000_000_000_000_000;
-
+// An instant up to which sums fit a u64.
 const MAX_GROUP_TIME: u64 = 2_000_000_000_000_000_000;
 
 // The send and the remote receive instant of a group's first packet.
@@ -74,17 +71,35 @@ pub struct Accumulated {
     pub delta: OptionDelta,
 }
 
-// An accumulator after packets that start no group, and the place of the packet after them.
-pub struct Joined {
-    pub accumulator: ArrivalGroupAccumulator,
-    pub next: usize,
+// The instants of a group that has a packet.
+pub struct GroupTimes {
+    pub first_send: u64,
+    pub first_remote: u64,
+    pub last_send: u64,
+    pub last_remote: u64,
 }
 
-// The last instants of a group after packets that join it, and the place of the packet after them.
-struct JoinedTimes {
-    last_send: u64,
-    last_remote: u64,
-    next: usize,
+pub enum OptionTimes {
+    None,
+    Some(GroupTimes),
+}
+
+// An accumulator with two groups, by plain numbers: its options are taken apart once for a whole report.
+pub struct Groups {
+    pub origin: u64,
+    pub previous: GroupTimes,
+    pub current: GroupTimes,
+}
+
+pub enum OptionGroups {
+    None,
+    Some(Groups),
+}
+
+// Groups after a packet, and the delay delta that the packet gave.
+pub struct AccumulatedGroups {
+    pub groups: Groups,
+    pub delta: OptionDelta,
 }
 
 // The later of two instants.
@@ -95,102 +110,6 @@ fn later(a: u64, b: u64) -> u64
         return b;
     }
     a
-}
-
-// Whether a packet sent no earlier than its group's first belongs to the group.
-fn joins_group(
-    first_send: u64,
-    first_remote: u64,
-    last_send: u64,
-    last_remote: u64,
-    send: u64,
-    remote: u64,
-) -> bool
-    requires { ⌜ Join.WithinGroup «first_send» «first_remote» «last_send» «last_remote» ⌝ }
-    requires { ⌜ (send ≤ Join.maxGroupTime) × (remote ≤ Join.maxGroupTime) ⌝ }
-    ensures { λ r. ⌜ r ≡ Join.joinsGroup «first_send» «first_remote» «last_send» «last_remote» send remote ⌝ }
-{
-    (send == last_send)
-        | (send <= first_send + SEND_TIME_GROUP_LENGTH)
-        | ((remote + last_send < send + last_remote)
-            & (remote <= last_remote + BURST_TIME_INTERVAL)
-            & (remote < first_remote + MAX_BURST_DURATION))
-}
-
-// The packets from a place on that join a group, by plain numbers.
-fn join_times(
-    origin: u64,
-    first_send: u64,
-    first_remote: u64,
-    group_send: u64,
-    group_remote: u64,
-    local_send_times: &[u64],
-    remote_recv_times: &[u64],
-    from: usize,
-) -> JoinedTimes
-    requires { ⌜ Join.WithinGroup «first_send» «first_remote» «group_send» «group_remote» ⌝ }
-    requires { ⌜ origin ≤ Join.maxGroupTime ⌝ }
-    ensures { λ r. ⌜ Join.JoinedTimes origin «first_send» «first_remote» «group_send» «group_remote» (now («local_send_times» .entry)) (now («remote_recv_times» .entry)) from r ⌝ }
-{
-    let mut last_send = group_send;
-    let mut last_remote = group_remote;
-    let mut next = from;
-    while next < local_send_times.len() {
-        if remote_recv_times.len() <= next {
-            return JoinedTimes {
-                last_send,
-                last_remote,
-                next,
-            };
-        }
-        let sent = local_send_times[next];
-        let remote = remote_recv_times[next];
-        if sent > MAX_PACKET_TIME {
-            return JoinedTimes {
-                last_send,
-                last_remote,
-                next,
-            };
-        }
-        if remote > MAX_PACKET_TIME {
-            return JoinedTimes {
-                last_send,
-                last_remote,
-                next,
-            };
-        }
-        if sent < origin {
-            next += 1;
-            continue;
-        }
-        let send = origin + ((sent - origin) / 1000 + 500) / 1000 * 1_000_000;
-        if send < first_send {
-            next += 1;
-            continue;
-        }
-        if !joins_group(
-            first_send,
-            first_remote,
-            last_send,
-            last_remote,
-            send,
-            remote,
-        ) {
-            return JoinedTimes {
-                last_send,
-                last_remote,
-                next,
-            };
-        }
-        last_send = later(last_send, send);
-        last_remote = later(last_remote, remote);
-        next += 1;
-    }
-    JoinedTimes {
-        last_send,
-        last_remote,
-        next,
-    }
 }
 
 // The later of an instant and of one that may be missing.
@@ -312,6 +231,29 @@ impl ArrivalGroup {
         }
     }
 
+    fn times(self) -> OptionTimes
+        ensures { λ r. ⌜ r ≡ Plain.times self ⌝ }
+    {
+        let first = self.first;
+        let last_local_send_time = self.last_local_send_time;
+        let last_remote_recv_time = self.last_remote_recv_time;
+        let OptionFirst::Some(first_send, first_remote) = first else {
+            return OptionTimes::None;
+        };
+        let OptionInstant::Some(last_send) = last_local_send_time else {
+            return OptionTimes::None;
+        };
+        let OptionInstant::Some(last_remote) = last_remote_recv_time else {
+            return OptionTimes::None;
+        };
+        OptionTimes::Some(GroupTimes {
+            first_send,
+            first_remote,
+            last_send,
+            last_remote,
+        })
+    }
+
     pub fn add_packet(self, local_send_time: u64, remote_recv_time: u64) -> Added
         ensures { λ r. ⌜ r ≡ Group.addPacket self «local_send_time» «remote_recv_time» ⌝ }
     {
@@ -419,73 +361,175 @@ impl ArrivalGroupAccumulator {
         self.accumulate_rounded(origin, rounded(origin, elapsed), remote_recv_time)
     }
 
-    // The packets from a place on that start no group, up to the first that starts one or whose instants are too great for a sum.
-    pub fn join(self, local_send_times: &[u64], remote_recv_times: &[u64], from: usize) -> Joined
-        ensures { λ r. ⌜ r ≡ Join.join self (drop from (now («local_send_times» .entry))) (drop from (now («remote_recv_times» .entry))) from ⌝ }
+    // By plain numbers, where it has two groups.
+    pub fn groups(self) -> OptionGroups
+        ensures { λ r. ⌜ r ≡ Plain.groups self ⌝ }
     {
         let send_time_origin = self.send_time_origin;
         let previous_group = self.previous_group;
-        let group = self.current_group;
-        let first = group.first;
-        let last_local_send_time = group.last_local_send_time;
-        let last_remote_recv_time = group.last_remote_recv_time;
+        let current_group = self.current_group;
         let OptionInstant::Some(origin) = send_time_origin else {
-            return Joined {
-                accumulator: self,
-                next: from,
-            };
+            return OptionGroups::None;
         };
-        let OptionFirst::Some(first_send, first_remote) = first else {
-            return Joined {
-                accumulator: self,
-                next: from,
-            };
+        let OptionGroup::Some(group) = previous_group else {
+            return OptionGroups::None;
         };
-        let OptionInstant::Some(last_send) = last_local_send_time else {
-            return Joined {
-                accumulator: self,
-                next: from,
-            };
+        let previous_times = group.times();
+        let OptionTimes::Some(previous) = previous_times else {
+            return OptionGroups::None;
         };
-        let OptionInstant::Some(last_remote) = last_remote_recv_time else {
-            return Joined {
-                accumulator: self,
-                next: from,
-            };
+        let current_times = current_group.times();
+        let OptionTimes::Some(current) = current_times else {
+            return OptionGroups::None;
         };
-        let small = (origin <= MAX_GROUP_TIME)
-            & ((first_send <= MAX_GROUP_TIME) & (first_remote <= MAX_GROUP_TIME))
-            & (last_send <= MAX_GROUP_TIME)
-            & (last_remote <= MAX_GROUP_TIME);
-        if !small {
-            return Joined {
-                accumulator: self,
-                next: from,
-            };
-        }
-        let joined = join_times(
+        OptionGroups::Some(Groups {
             origin,
-            first_send,
-            first_remote,
-            last_send,
-            last_remote,
-            local_send_times,
-            remote_recv_times,
-            from,
-        );
-        let current_group = ArrivalGroup {
-            first,
-            last_local_send_time: OptionInstant::Some(joined.last_send),
-            last_remote_recv_time: OptionInstant::Some(joined.last_remote),
-        };
-        let accumulator = ArrivalGroupAccumulator {
-            send_time_origin,
+            previous,
+            current,
+        })
+    }
+}
+
+impl GroupTimes {
+    fn group(self) -> ArrivalGroup
+        ensures { λ r. ⌜ r ≡ Plain.group self ⌝ }
+    {
+        ArrivalGroup {
+            first: OptionFirst::Some(self.first_send, self.first_remote),
+            last_local_send_time: OptionInstant::Some(self.last_send),
+            last_remote_recv_time: OptionInstant::Some(self.last_remote),
+        }
+    }
+
+    // Whether the sums of its instants and a packet's fit a u64.
+    fn small(self, send: u64, remote: u64) -> bool
+        ensures { λ r. ⌜ r ≡ Plain.small self send remote ⌝ }
+    {
+        (self.first_send <= MAX_GROUP_TIME)
+            & (self.first_remote <= MAX_GROUP_TIME)
+            & (self.last_send <= MAX_GROUP_TIME)
+            & (self.last_remote <= MAX_GROUP_TIME)
+            & (send <= MAX_GROUP_TIME)
+            & (remote <= MAX_GROUP_TIME)
+    }
+
+    // Whether a packet needs no new group, by sums.
+    fn joins(self, send: u64, remote: u64) -> bool
+        requires { ⌜ Plain.Small self send remote ⌝ }
+        ensures { λ r. ⌜ r ≡ Plain.joins self send remote ⌝ }
+    {
+        (send == self.last_send)
+            | (send <= self.first_send + SEND_TIME_GROUP_LENGTH)
+            | ((remote + self.last_send < send + self.last_remote)
+                & (remote <= self.last_remote + BURST_TIME_INTERVAL)
+                & (remote < self.first_remote + MAX_BURST_DURATION))
+    }
+
+    // Whether a packet needs no new group: by sums where they fit.
+    fn has(self, send: u64, remote: u64) -> bool
+        ensures { λ r. ⌜ r ≡ Plain.has self send remote ⌝ }
+    {
+        if self.small(send, remote) {
+            return self.joins(send, remote);
+        }
+        let belongs = self.group().belongs_to_group(send, remote);
+        match belongs {
+            Belongs::Yes => true,
+            Belongs::NewGroup => false,
+            Belongs::Skipped => true,
+        }
+    }
+
+    // The group with a packet of its own.
+    fn with_packet(self, send: u64, remote: u64) -> Self
+        ensures { λ r. ⌜ Plain.group r ≡ Group.withPacket (Plain.group self) send remote ⌝ }
+    {
+        Self {
+            first_send: self.first_send,
+            first_remote: self.first_remote,
+            last_send: later(self.last_send, send),
+            last_remote: later(self.last_remote, remote),
+        }
+    }
+}
+
+impl Groups {
+    pub fn accumulator(self) -> ArrivalGroupAccumulator
+        ensures { λ r. ⌜ r ≡ Plain.accumulator self ⌝ }
+    {
+        let previous = self.previous;
+        let current = self.current;
+        let previous_group = OptionGroup::Some(previous.group());
+        let current_group = current.group();
+        ArrivalGroupAccumulator {
+            send_time_origin: OptionInstant::Some(self.origin),
             previous_group,
             current_group,
-        };
-        Joined {
-            accumulator,
-            next: joined.next,
         }
+    }
+
+    // The delay between the groups.
+    fn delta(self) -> InterGroupDelayDelta
+        ensures { λ r. ⌜ OptionDelta.Some r ≡ Group.delta (Plain.accumulator self) ⌝ }
+    {
+        let previous = self.previous;
+        let current = self.current;
+        InterGroupDelayDelta {
+            send_delta: between(current.last_send, previous.last_send),
+            arrival_delta: between(current.last_remote, previous.last_remote),
+            last_remote_recv_time: current.last_remote,
+        }
+    }
+
+    // A packet whose send instant is rounded.
+    fn accumulate_rounded(self, send: u64, remote: u64) -> AccumulatedGroups
+        ensures { λ r. ⌜ Plain.accumulated r ≡ Group.accumulateRounded (Plain.accumulator self) (self .origin) send remote ⌝ }
+    {
+        let previous = self.previous;
+        let current = self.current;
+        if send < current.first_send {
+            return AccumulatedGroups {
+                groups: self,
+                delta: OptionDelta::None,
+            };
+        }
+        if current.has(send, remote) {
+            let groups = Groups {
+                origin: self.origin,
+                previous,
+                current: current.with_packet(send, remote),
+            };
+            return AccumulatedGroups {
+                groups,
+                delta: OptionDelta::None,
+            };
+        }
+        let delta = OptionDelta::Some(self.delta());
+        let groups = Groups {
+            origin: self.origin,
+            previous: current,
+            current: GroupTimes {
+                first_send: send,
+                first_remote: remote,
+                last_send: send,
+                last_remote: remote,
+            },
+        };
+        AccumulatedGroups { groups, delta }
+    }
+
+    // A packet, in the order of receipt, as an accumulator takes it.
+    pub fn accumulate_packet(self, local_send_time: u64, remote_recv_time: u64) -> AccumulatedGroups
+        ensures { λ r. ⌜ Plain.accumulated r ≡ Group.accumulatePacket (Plain.accumulator self) «local_send_time» «remote_recv_time» ⌝ }
+    {
+        let origin = self.origin;
+        if local_send_time < origin {
+            return AccumulatedGroups {
+                groups: self,
+                delta: OptionDelta::None,
+            };
+        }
+        let send = rounded(origin, local_send_time - origin);
+        self.accumulate_rounded(send, remote_recv_time)
     }
 }

@@ -1,6 +1,5 @@
 -- A report's packets, one after the other: a turn of each loop, where it ends because a list has no more, and the parts put together.
 use mathlib.Core.Path.{_≡_, refl, ap, _∙_}
-use mathlib.Core.Bool.{true}
 use mathlib.Core.List.{List, [], _∷_}
 use Prim.Native.Nat.{ℕ, zero, suc, _+_, _-_, _<_, _≤_, max, min}
 use native.Mathlib.Numerals.{add-one}
@@ -13,70 +12,30 @@ use Rattle.time.specs.Laws.{dichotomy}
 use Rattle.time.specs.declared.OptionDuration.{OptionDuration}
 use Rattle.time.specs.declared.OptionDuration.the-variants as Duration
 use Rattle.arrival_group.specs.ArrivalGroup.{accumulatePacket}
-use Rattle.arrival_group.specs.Join.{join, joins}
-use Rattle.arrival_group.specs.JoinLaws.{join-keeps, joins-no-delta}
 use Rattle.arrival_group.specs.declared.Accumulated.{Accumulated}
-use Rattle.arrival_group.specs.declared.Joined.{Joined}
 use Rattle.arrival_group.specs.declared.ArrivalGroupAccumulator.{ArrivalGroupAccumulator}
 use Rattle.trendline.specs.declared.TrendlineEstimator.{TrendlineEstimator}
 use Rattle.control.specs.declared.Packets.{Packets}
-use Rattle.control.specs.Control.{add, addAll, addGroup, addGroups, longestRtt, maxRttAfter, observe, withRtt}
-
-abbrev pub packets : ArrivalGroupAccumulator → TrendlineEstimator → OptionDuration → Packets
-packets a t m = record { «arrival_group_accumulator» = a; «trendline_estimator» = t; «max_rtt» = m }
+use Rattle.control.specs.Control.{add, addAll, addGroup, addGroups, longestRtt, maxRttAfter, observe, packets, withRtt}
 
 -- ---- groups
 module _ (sends remotes : List ℕ) (i : ℕ) where
-  pub groups-turn :
-      (p : Packets) →
-      i < length sends →
-      i < length remotes →
-      addGroups (addGroup p (getD sends i 0) (getD remotes i 0)) (drop (i + 1) sends) (drop (i + 1) remotes) ≡ addGroups p (drop i sends) (drop i remotes)
+  pub groups-end : (p : Packets) → min (length sends) (length remotes) ≤ i → addGroups p (drop i sends) (drop i remotes) ≡ p
   unfolding addGroups
-  groups-turn p h k = rw (add-one, drop-cons sends i 0 h, drop-cons remotes i 0 k)
-
-  pub groups-sends-end : (p : Packets) → length sends ≤ i → addGroups p (drop i sends) (drop i remotes) ≡ p
-  unfolding addGroups
-  groups-sends-end p h = rw (drop-of-length-le sends h)
-
-  pub groups-remotes-end : (p : Packets) → length remotes ≤ i → addGroups p (drop i sends) (drop i remotes) ≡ p
-  unfolding addGroups
-  groups-remotes-end p h = rw (drop-of-length-le remotes h) (none (drop i sends))
+  groups-end p h = dichotomy i (length sends) (λ k. rw (drop-of-length-le remotes {i = i} (omega arith)) (none (drop i sends))) (λ k. rw (drop-of-length-le sends k))
     where
       none : (ss : List ℕ) → addGroups p ss [] ≡ p
       none [] = refl
       none (s ∷ ss) = refl
 
-  -- part by part
-  pub groups-turn-by :
+  pub groups-turn :
       (a : ArrivalGroupAccumulator) (t : TrendlineEstimator) (m : OptionDuration) {u : TrendlineEstimator} {done : Accumulated} →
       done ≡ accumulatePacket a (getD sends i 0) (getD remotes i 0) →
       u ≡ observe (done .delta) t →
-      i < length sends →
-      i < length remotes →
+      i < min (length sends) (length remotes) →
       addGroups (packets (done .accumulator) u m) (drop (i + 1) sends) (drop (i + 1) remotes) ≡ addGroups (packets a t m) (drop i sends) (drop i remotes)
-  unfolding addGroup
-  groups-turn-by a t m e f h k = rw (f, e) (groups-turn (packets a t m) h k)
-
--- a packet that joins leaves the trendline
-joins-group : (a : ArrivalGroupAccumulator) (t : TrendlineEstimator) (m : OptionDuration) (send remote : ℕ) → joins a send remote ≡ true → addGroup (packets a t m) send remote ≡ packets (accumulatePacket a send remote .accumulator) t m
-unfolding addGroup
-joins-group a t m send remote e = rw (joins-no-delta a send remote e)
-
--- a later place, from which on what is left, added too, gives the whole
-abbrev pub Left : List ℕ → List ℕ → TrendlineEstimator → OptionDuration → Packets → ℕ → ArrivalGroupAccumulator → ℕ → Type 0
-Left sends remotes t m whole from a i = (from ≤ i) × (addGroups (packets a t m) (drop i sends) (drop i remotes) ≡ whole)
-
-pub join-groups :
-    (sends remotes : List ℕ) (a : ArrivalGroupAccumulator) (t : TrendlineEstimator) (m : OptionDuration) (i : ℕ) {j : Joined} {whole : Packets} →
-    j ≡ join a (drop i sends) (drop i remotes) i →
-    addGroups (packets a t m) (drop i sends) (drop i remotes) ≡ whole →
-    Left sends remotes t m whole i (j .accumulator) (j .next)
-join-groups sends remotes a t m i {j} {whole} e w =
-    rw e
-    (join-keeps (Left sends remotes t m whole i) sends remotes
-    (λ b k h l f p. (omega arith, rw (← joins-group b t m (getD sends k 0) (getD remotes k 0) f) (groups-turn sends remotes k (packets b t m) h l ∙ p .1)))
-    a i (omega arith, w))
+  unfolding addGroup addGroups
+  groups-turn a t m e f h = rw (f, e, add-one, drop-cons sends i 0 (omega arith), drop-cons remotes i 0 (omega arith))
 
 -- ---- round trips
 module _ (sends receives : List ℕ) (d i : ℕ) where

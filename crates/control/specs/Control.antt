@@ -21,6 +21,7 @@ use Rattle.time.specs.declared.OptionInstant.the-variants as Instant
 use Rattle.time.specs.declared.OptionDuration.{OptionDuration}
 use Rattle.time.specs.declared.OptionDuration.the-variants as Duration
 use Rattle.arrival_group.specs.ArrivalGroup as Group
+use Rattle.arrival_group.specs.declared.ArrivalGroupAccumulator.{ArrivalGroupAccumulator}
 use Rattle.arrival_group.specs.declared.OptionDelta.{OptionDelta}
 use Rattle.arrival_group.specs.declared.OptionDelta.the-variants as Delta
 use Rattle.trendline.specs.Trendline as Trendline
@@ -80,9 +81,11 @@ addAll p (s ∷ sends) (r ∷ remotes) [] = p
 addAll p (s ∷ sends) (r ∷ remotes) (l ∷ receives) = addAll (add p s r l) sends remotes receives
 
 -- the same in two parts: the groups with the trendline, and the round trips
+abbrev pub packets : ArrivalGroupAccumulator → TrendlineEstimator → OptionDuration → Packets
+packets a t rtt = record { «arrival_group_accumulator» = a; «trendline_estimator» = t; «max_rtt» = rtt }
+
 abbrev pub withRtt : Packets → OptionDuration → Packets
-withRtt p rtt =
-    record { «arrival_group_accumulator» = p .«arrival_group_accumulator»; «trendline_estimator» = p .«trendline_estimator»; «max_rtt» = rtt }
+withRtt p rtt = packets (p .«arrival_group_accumulator») (p .«trendline_estimator») rtt
 
 unfoldable pub addGroup : Packets → ℕ → ℕ → Packets
 addGroup p send remote =

@@ -2,9 +2,12 @@
 // consulted and is left out, and so is its copy of the last estimate, which is always the rate control's.
 ghost use mathlib.Core.Path.{_≡_};
 ghost use Prim.Native.Nat.{min};
+ghost use Rattle.arrival_group.specs.Groups.{accumulator};
 ghost use Rattle.control.specs.Control as Control;
 use arrival_group::ArrivalGroupAccumulator;
+use arrival_group::Groups;
 use arrival_group::OptionDelta;
+use arrival_group::OptionGroups;
 use average::MovingAverage;
 use average::OptionF64;
 use bandwidth::BandwidthUsage;
@@ -91,10 +94,42 @@ fn shorter(a: usize, b: usize) -> usize
     b
 }
 
+// The groups and the trendline after packets in the order of receipt, as two lists; what one list has more is left out. The greatest round
+// trip is given.
+fn add_plain(
+    taken: Groups,
+    trendline_estimator: TrendlineEstimator,
+    max_rtt: OptionDuration,
+    local_send_times: &[u64],
+    remote_recv_times: &[u64],
+) -> Packets
+    ensures { λ r. ⌜ r ≡ Control.addGroups (Control.packets (accumulator taken) «trendline_estimator» «max_rtt») (now («local_send_times» .entry)) (now («remote_recv_times» .entry)) ⌝ }
+{
+    let mut groups = taken;
+    let mut trendline = trendline_estimator;
+    let n = shorter(local_send_times.len(), remote_recv_times.len());
+    let mut i = 0;
+    while i < n {
+        let local_send_time = local_send_times[i];
+        let done = groups.accumulate_packet(local_send_time, remote_recv_times[i]);
+        groups = done.groups;
+        let delta = done.delta;
+        if let OptionDelta::Some(variation) = delta {
+            trendline = trendline.add_delay_observation(variation, variation.last_remote_recv_time);
+        }
+        i += 1;
+    }
+    let arrival_group_accumulator = groups.accumulator();
+    Packets {
+        arrival_group_accumulator,
+        trendline_estimator: trendline,
+        max_rtt,
+    }
+}
+
 impl Packets {
-    // The groups and the trendline after packets in the order of receipt, as two lists; what one list has more is left out. The greatest
-    // round trip is given.
-    fn add_groups(
+    // As `add_plain`, for any accumulator.
+    fn add_each(
         self,
         max_rtt: OptionDuration,
         local_send_times: &[u64],
@@ -104,28 +139,10 @@ impl Packets {
     {
         let mut accumulator = self.arrival_group_accumulator;
         let mut trendline = self.trendline_estimator;
+        let n = shorter(local_send_times.len(), remote_recv_times.len());
         let mut i = 0;
-        while i < local_send_times.len() {
-            let joined = accumulator.join(local_send_times, remote_recv_times, i);
-            accumulator = joined.accumulator;
-            i = joined.next;
-            if local_send_times.len() <= i {
-                return Self {
-                    arrival_group_accumulator: accumulator,
-                    trendline_estimator: trendline,
-                    max_rtt,
-                };
-            }
-            if remote_recv_times.len() <= i {
-                return Self {
-                    arrival_group_accumulator: accumulator,
-                    trendline_estimator: trendline,
-                    max_rtt,
-                };
-            }
-            let local_send_time = local_send_times[i];
-            let remote_recv_time = remote_recv_times[i];
-            let done = accumulator.accumulate_packet(local_send_time, remote_recv_time);
+        while i < n {
+            let done = accumulator.accumulate_packet(local_send_times[i], remote_recv_times[i]);
             accumulator = done.accumulator;
             let delta = done.delta;
             if let OptionDelta::Some(variation) = delta {
@@ -141,6 +158,30 @@ impl Packets {
             trendline_estimator: trendline,
             max_rtt,
         }
+    }
+
+    // By plain numbers where the accumulator has two groups.
+    fn add_groups(
+        self,
+        max_rtt: OptionDuration,
+        local_send_times: &[u64],
+        remote_recv_times: &[u64],
+    ) -> Self
+        ensures { λ r. ⌜ r ≡ Control.addGroups (Control.withRtt self «max_rtt») (now («local_send_times» .entry)) (now («remote_recv_times» .entry)) ⌝ }
+    {
+        let accumulator = self.arrival_group_accumulator;
+        let trendline = self.trendline_estimator;
+        let taken = accumulator.groups();
+        let OptionGroups::Some(groups) = taken else {
+            return self.add_each(max_rtt, local_send_times, remote_recv_times);
+        };
+        add_plain(
+            groups,
+            trendline,
+            max_rtt,
+            local_send_times,
+            remote_recv_times,
+        )
     }
 
     // A report's packets in the order of receipt, as three lists; what one list has more is left out.
