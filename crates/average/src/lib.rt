@@ -15,6 +15,18 @@ pub struct MovingAverage {
     pub std: f64,
 }
 
+impl OptionF64 {
+    // The same number, put together anew, as `time::OptionInstant::copied`.
+    pub fn copied(self) -> Self
+        ensures { λ r. ⌜ r ≡ self ⌝ }
+    {
+        match self {
+            OptionF64::None => OptionF64::None,
+            OptionF64::Some(a) => OptionF64::Some(a),
+        }
+    }
+}
+
 impl MovingAverage {
     pub fn new(smoothing_factor: f64) -> Self
         ensures { λ r. ⌜ r ≡ Average.new «smoothing_factor» ⌝ }
@@ -24,6 +36,18 @@ impl MovingAverage {
             average: OptionF64::None,
             variance: 0.0,
             std: 0.0,
+        }
+    }
+
+    pub fn copied(self) -> Self
+        ensures { λ r. ⌜ r ≡ self ⌝ }
+    {
+        let a = self.average;
+        Self {
+            smoothing_factor: self.smoothing_factor,
+            average: a.copied(),
+            variance: self.variance,
+            std: self.std,
         }
     }
 

@@ -76,6 +76,18 @@ impl Bitrate {
     }
 }
 
+impl OptionBitrate {
+    // The same rate, put together anew, as `time::OptionInstant::copied`.
+    pub fn copied(self) -> Self
+        ensures { λ r. ⌜ r ≡ self ⌝ }
+    {
+        match self {
+            OptionBitrate::None => OptionBitrate::None,
+            OptionBitrate::Some(rate) => OptionBitrate::Some(Bitrate(rate.0)),
+        }
+    }
+}
+
 impl DataSize {
     pub const ZERO: DataSize = DataSize(0);
 

@@ -145,6 +145,30 @@ impl RateControl {
         b
     }
 
+    // The same rate control, with each enum that holds a value put together anew.
+    pub fn copied(self) -> Self
+        ensures { λ r. ⌜ r ≡ self ⌝ }
+    {
+        let state = self.state;
+        let estimated_bitrate = self.estimated_bitrate;
+        let min_bitrate = self.min_bitrate;
+        let max_bitrate = self.max_bitrate;
+        let observed = self.last_observed_bitrate;
+        let average = self.averaged_observed_bitrate;
+        let update = self.last_estimate_update;
+        let rtt = self.last_rtt;
+        Self {
+            state,
+            estimated_bitrate,
+            min_bitrate,
+            max_bitrate,
+            last_observed_bitrate: observed.copied(),
+            averaged_observed_bitrate: average.copied(),
+            last_estimate_update: update.copied(),
+            last_rtt: rtt.copied(),
+        }
+    }
+
     fn with_average(mut self, average: MovingAverage) -> Self
         ensures { λ r. ⌜ r ≡ Rate.withAverage self average ⌝ }
     {

@@ -41,6 +41,29 @@ pub enum TimeDelta {
     PositiveInfinity,
 }
 
+impl OptionInstant {
+    // The same value, put together anew: a copy of an enum as a whole moves its padding too, and a chain of such copies stalls.
+    pub fn copied(self) -> Self
+        ensures { λ r. ⌜ r ≡ self ⌝ }
+    {
+        match self {
+            OptionInstant::None => OptionInstant::None,
+            OptionInstant::Some(t) => OptionInstant::Some(t),
+        }
+    }
+}
+
+impl OptionDuration {
+    pub fn copied(self) -> Self
+        ensures { λ r. ⌜ r ≡ self ⌝ }
+    {
+        match self {
+            OptionDuration::None => OptionDuration::None,
+            OptionDuration::Some(d) => OptionDuration::Some(d),
+        }
+    }
+}
+
 // Rust's `Instant::checked_duration_since`.
 pub fn checked_duration_since(later: u64, earlier: u64) -> OptionDuration
     ensures { λ r. ⌜ r ≡ Time.checkedDurationSince later earlier ⌝ }
