@@ -388,17 +388,19 @@ fn rate_from(
     ensures { λ r. ⌜ r ≡ Control.rateFrom «probe_bitrate» «observed_bitrate» «rate_control» hypothesis (Control.rttOf («smoothed_rtt» .average)) now ⌝ }
 {
     if let OptionBitrate::Some(probe) = probe_bitrate {
-        return rate_control.set_probe_result(probe, now);
+        return rate_control.set_probe_result(probe, now).copied();
     }
     let OptionBitrate::Some(observed) = observed_bitrate else {
-        return rate_control;
+        return rate_control.copied();
     };
-    rate_control.update(
-        Signal::from(hypothesis),
-        observed,
-        rtt_of(smoothed_rtt),
-        now,
-    )
+    rate_control
+        .update(
+            Signal::from(hypothesis),
+            observed,
+            rtt_of(smoothed_rtt),
+            now,
+        )
+        .copied()
 }
 
 // The smoothed round trip after a report's greatest.
