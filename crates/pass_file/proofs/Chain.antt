@@ -1,5 +1,5 @@
 -- What the proofs of the listing cite: the packets that are kept, the calls that they make, and the lines that are left along the chain.
-use mathlib.Core.Path.{_≡_, refl, sym, ap, _∙_}
+use mathlib.Core.Path.{_≡_, refl, sym, ap, subst, _∙_}
 use Prim.Native.Nat.{ℕ, suc, _+_, _-_, _≤_, _<_, min}
 use mathlib.Core.Bool.{Bool, true, false, cond, and-false}
 use mathlib.Core.List.{List, [], _∷_, _++_, map, map-append}
@@ -7,26 +7,32 @@ use native.Mathlib.Nat.{sub-zero}
 use native.Mathlib.Omega.{arith}
 use lib.Dec.{eqb, ltb, leb}
 use lib.ListN.{length, set, take, drop, length-append, length-set, length-take, length-map}
-use lib.Ieee.{binary64, toBits}
 use lib.Seq.{sets, length-sets, length-take-le, sets-eq, set-out, take-all, take-append-le, take-nil, take-suc-set}
 use borrow.Author.Tests.{eq-eqb, ne-eqb, lt-leb, leb-true, leb-false, ltb-true, ltb-false}
+use Rattle.acked_bitrate_estimator.specs.declared.AckedBitrateEstimator.{AckedBitrateEstimator}
 use Rattle.trendline.specs.Cases.{cases}
+use Rattle.bandwidth.specs.declared.BandwidthUsage.{BandwidthUsage}
+use Rattle.bandwidth.specs.declared.Bitrate.{Bitrate}
+use Rattle.bandwidth.specs.declared.OptionBitrate.{OptionBitrate}
+use Rattle.control.specs.Control as Control
+use Rattle.control.specs.declared.DelayController.{DelayController}
 use Rattle.link_state.specs.State.{inRange}
 use Rattle.link_state.specs.declared.Link.{Link}
 use Rattle.link.specs.Link as L
-use Rattle.link.specs.Link.{Report, estimate, hypothesis, listsIn, nextTimeout, outcome, reply, report-of}
-use Rattle.link.specs.Laws.{report-4, report-in-range}
-use Rattle.link.specs.declared.Called.{Called}
-use Rattle.link_runs.specs.Statement.{call, report, timeout}
+use Rattle.link.specs.Link.{Outcome, Report, acceptedWith, listsIn, momentIn, mostPackets, refusal, report-of, timedOut}
+use Rattle.link.specs.Laws.{report-4, report-in-range, timeout-7, timeout-in-range, timeout-yes}
+use Rattle.link_runs.specs.Statement.{Call, call, report, timeout}
 use Rattle.link_runs.specs.Good.{Good, call-good}
 use Rattle.link_runs.specs.InRange.{good-in-range}
 use Rattle.pass_records.specs.declared.Following.{Following}
 use Rattle.pass_records.specs.PassRecords as Records
 use Rattle.pass_records.specs.Laws.{chain-step}
-use Rattle.pass_records.specs.PassRecords.{chainFrom, follows, kind, onward, receive, remote, send, sequence, size}
-use Rattle.listing_line.specs.ListingLine.{Wrote, line, placeAfter, putLine}
+use Rattle.pass_records.specs.PassRecords.{chainFrom, follows, kind, onward, receive, recordAt, remote, send, sequence, size}
+use Rattle.pass_records.specs.Record.{receive-record, remote-record, send-record, sequence-record, size-record}
+use Rattle.listing_line.specs.ListingLine.{Wrote, placeAfter, putLine}
 use Rattle.listing_line.specs.Laws.{put-room, sets-append}
-use Rattle.pass_file.specs.PassFile.{KeptLengths, callAt, callOf, calls, first, letter, lines, listing, mostWaiting, oneMore, probe, refusal, shown}
+use Rattle.pass_file.specs.PassFile.{KeptLengths, callAt, callOf, calls, first, lineOf, lineWith, lines, listing, mostWaiting, oneMore, probe, shown}
+use Rattle.pass_file.specs.Judged.{JudgesReport, linkOf, reportOfFirst, timeoutNumber}
 use Rattle.pass_file.specs.Laws.{first-good}
 
 -- ---- the text that is left
@@ -111,19 +117,13 @@ module _ {file sequences sizes sends remotes receives : List ℕ} where
         receives-kept = keeps-more k (p .few) (p .receives-kept) f;
       })
 
-  -- after a report no packet waits
-  kept-after : {waiting : List ℕ} {n : ℕ} (t : Bool) → Kept file waiting n sequences sizes sends remotes receives
-      → Kept file (cond t [] waiting) (cond t 0 n) sequences sizes sends remotes receives
-  kept-after true p = none-kept (p .sequences-kept .room, p .sizes-kept .room, p .sends-kept .room, p .remotes-kept .room, p .receives-kept .room)
-  kept-after false p = p
-
 -- ---- the calls that they make
-too-many : (sequences sizes sends remotes receives : List ℕ) → 1024 < length sequences → listsIn sequences sizes sends remotes receives ≡ false
+too-many : (sequences sizes sends remotes receives : List ℕ) → mostPackets < length sequences → listsIn sequences sizes sends remotes receives ≡ false
 unfolding listsIn
-too-many sequences sizes sends remotes receives h = rw (lt-leb (length sequences) 1024 h, and-false)
+too-many sequences sizes sends remotes receives h = rw (lt-leb (length sequences) mostPackets h, and-false)
 
 -- two reports with too many packets are refused alike
-refused-alike : (l : Link) (r s : Report) → inRange l ≡ true → 1024 < length (r .sequences) → 1024 < length (s .sequences) → L.report l r ≡ L.report l s
+refused-alike : (l : Link) (r s : Report) → inRange l ≡ true → mostPackets < length (r .sequences) → mostPackets < length (s .sequences) → L.report l r ≡ L.report l s
 refused-alike l r s y1 h i =
     sym (report-in-range l r y1) ∙ report-4 l r (too-many _ _ _ _ _ h) ∙ sym (report-4 l s (too-many _ _ _ _ _ i)) ∙ report-in-range l s y1
 
@@ -179,13 +179,14 @@ module _ (file waiting ks : List ℕ) (k : ℕ) where
   unfolding calls lines
   lines-call l h = rw (ne-eqb (kind file k) Records.packet h)
 
--- the line of record k, whose call was refused by this question or by none, and left this link
-abbrev lineAfter : ℕ → ℕ → Link → List ℕ
-lineAfter k refused l = line k refused (letter (hypothesis l)) (toBits binary64 (estimate l)) (nextTimeout l)
+-- what a call gives: its number, and the link after it
+pub record Gives (o : Outcome) (number : ℕ) (after : Link) : Type 0 where
+  pub number-is : refusal (o .reply) ≡ number
+  pub link-is : o .link ≡ after
 
-shown-line : (k : ℕ) (c : Called) {refused : ℕ} → refused ≡ refusal (reply (c .answer)) → lineAfter k refused (c .link) ≡ shown k (outcome c)
+gives-shown : {o : Outcome} {number : ℕ} {after : Link} (k : ℕ) → Gives o number after → shown k o ≡ lineOf k number (after .control)
 unfolding shown
-shown-line k c e = rw e
+gives-shown k g = rw (g .number-is, g .link-is)
 
 -- no line has been written
 pub starts : {file out sequences sizes sends remotes receives : List ℕ} {link : Link} → length (listing file) ≤ length out
@@ -231,42 +232,116 @@ module _ {file old ks out sequences sizes sends remotes receives : List ℕ} {li
   same-progress a b c d e f g h i p = rw (a, b, c, d, e, f, g, h, i) p
 
   -- a packet joins those that wait
-  pub joined : {sequences₁ sizes₁ sends₁ remotes₁ receives₁ : List ℕ} {k next : ℕ} → kind file k ≡ Records.packet
+  pub joined : {bytes sequences₁ sizes₁ sends₁ remotes₁ receives₁ : List ℕ} {k next : ℕ} → bytes ≡ recordAt file k → kind file k ≡ Records.packet
       → Progress file old (k ∷ ks) out sequences sizes sends remotes receives link n at → next ≡ oneMore n
-      → sequences₁ ≡ set sequences n (sequence file k) → sizes₁ ≡ set sizes n (size file k) → sends₁ ≡ set sends n (send file k)
-      → remotes₁ ≡ set remotes n (remote file k) → receives₁ ≡ set receives n (receive file k)
+      → sequences₁ ≡ set sequences n (sequence bytes 1) → sizes₁ ≡ set sizes n (size bytes 1) → sends₁ ≡ set sends n (send bytes 1)
+      → remotes₁ ≡ set remotes n (remote bytes 1) → receives₁ ≡ set receives n (receive bytes 1)
       → Progress file old ks out sequences₁ sizes₁ sends₁ remotes₁ receives₁ link next at
-  joined {k = k} h p e a b c d f = record {
+  joined {k = k} b h p e a₀ a₁ a₂ a₃ a₄ = record {
     waiting = p .waiting ++ (k ∷ []);
     good = p .good;
-    kept = one-more-kept k (p .kept) e a b c d f;
+    kept = one-more-kept k (p .kept) e (rw (b, sequence-record) at a₀) (rw (b, size-record) at a₁) (rw (b, send-record) at a₂) (rw (b, remote-record) at a₃) (rw (b, receive-record) at a₄);
     fits = p .fits;
     size = p .size;
     left = rw (calls-packet file (p .waiting) ks k h) at (p .left);
   }
 
   -- a call is made, and its line written
-  pub called : {new : List ℕ} {k next place refused : ℕ} (c : Called) → (kind file k ≡ Records.packet → ⊥)
-      → Progress file old (k ∷ ks) out sequences sizes sends remotes receives link n at
-      → outcome c ≡ call link (callOf file k (take (n - 0) sequences) (take (n - 0) sizes) (take (n - 0) sends) (take (n - 0) remotes) (take (n - 0) receives))
-      → refused ≡ refusal (reply (c .answer))
-      → new ≡ putLine out at (lineAfter k refused (c .link)) → place ≡ placeAfter out at (lineAfter k refused (c .link))
-      → next ≡ cond (eqb (kind file k) Records.report) 0 n
-      → Progress file old ks new sequences sizes sends remotes receives (c .link) next place
-  called {k = k} c h p e r a b f =
-      let o : outcome c ≡ call link (callAt file k (p .waiting)) = e ∙ kept-call link k (good-in-range link (p .good)) (p .kept) in
-      let s = shown-line k c r in
-      let l = rw (lines-call file (p .waiting) ks k link h, ← o) at (p .left) in
-      let w = put-room out at (shown k (outcome c)) (omega (arith, p .fits, p .size, simp length-append at (l .after))) in
-      rw (a, b, f, s)
+  pub called : {new sequences₁ sizes₁ sends₁ remotes₁ receives₁ : List ℕ} {after : Link} {k next place number : ℕ} → (kind file k ≡ Records.packet → ⊥)
+      → (p : Progress file old (k ∷ ks) out sequences sizes sends remotes receives link n at)
+      → Gives (call link (callOf file k (take (n - 0) sequences) (take (n - 0) sizes) (take (n - 0) sends) (take (n - 0) remotes) (take (n - 0) receives))) number after
+      → new ≡ putLine out at (lineOf k number (after .control)) → place ≡ placeAfter out at (lineOf k number (after .control))
+      → Kept file (cond (eqb (kind file k) Records.report) [] (p .waiting)) next sequences₁ sizes₁ sends₁ remotes₁ receives₁
+      → Progress file old ks new sequences₁ sizes₁ sends₁ remotes₁ receives₁ after next place
+  called {after = after} {k = k} {number = number} h p g a b t =
+      let o = kept-call link k (good-in-range link (p .good)) (p .kept) in
+      let q = subst (λ u. Gives u number after) o g in
+      let l = rw (lines-call file (p .waiting) ks k link h, gives-shown k q, q .link-is) at (p .left) in
+      let w = put-room out at (lineOf k number (after .control)) (omega (arith, p .fits, p .size, simp length-append at (l .after))) in
+      rw (a, b)
       (record {
         waiting = cond (eqb (kind file k) Records.report) [] (p .waiting);
-        good = rw (← o) at (call-good link (callAt file k (p .waiting)) (p .good));
-        kept = kept-after (eqb (kind file k) Records.report) (p .kept);
+        good = rw (q .link-is) at (call-good link (callAt file k (p .waiting)) (p .good));
+        kept = t;
         fits = p .fits;
-        size = ap length (w .bytes) ∙ length-sets out at (shown k (outcome c)) ∙ p .size;
+        size = ap length (w .bytes) ∙ length-sets out at (lineOf k number (after .control)) ∙ p .size;
         left = left-wrote l w;
       })
+
+-- ---- what the two kinds of calls give
+moment-yes : (t : Bool) → _≡_ {A = ℕ} (cond t 0 7) 0 → t ≡ true
+moment-yes true e = refl
+moment-yes false e = absurd (omega arith)
+
+moment-no : (t : Bool) → (_≡_ {A = ℕ} (cond t 0 7) 0 → ⊥) → t ≡ false
+moment-no true h = absurd (h refl)
+moment-no false h = refl
+
+module _ (file sequences sizes sends remotes receives : List ℕ) (k n : ℕ) (acked : AckedBitrateEstimator) (control : DelayController) (y1 : inRange (linkOf acked control) ≡ true) where
+  abbrev callHere : Call
+  callHere = callOf file k (take (n - 0) sequences) (take (n - 0) sizes) (take (n - 0) sends) (take (n - 0) remotes) (take (n - 0) receives)
+
+  abbrev reportHere : Report
+  reportHere = reportOfFirst n sequences sizes sends remotes receives (probe file k) (receive file k)
+
+  the-report : kind file k ≡ Records.report → L.reportInRange (linkOf acked control) reportHere ≡ call (linkOf acked control) callHere
+  the-report h = rw (eq-eqb (kind file k) Records.report h, sub-zero n) (report-in-range (linkOf acked control) reportHere y1)
+
+  -- a report that is accepted, and one that is not
+  module _ (h : kind file k ≡ Records.report) {p : OptionBitrate} {t : ℕ} (ep : p ≡ probe file k) (et : t ≡ receive file k) {number : ℕ} {after : AckedBitrateEstimator} (sends₁ remotes₁ receives₁ : List ℕ)
+      (j : JudgesReport acked (reportOfFirst n sequences sizes sends remotes receives p t) number after (take n sends₁) (take n remotes₁) (take n receives₁)) where
+    judged-here : JudgesReport acked reportHere number after (take n sends₁) (take n remotes₁) (take n receives₁)
+    judged-here = rw (ep, et) at j
+
+    pub report-accepted : {rate : OptionBitrate} {control₁ : DelayController} → number ≡ 0 → rate ≡ after .estimate
+        → control₁ ≡ Control.update control (take (n - 0) sends₁) (take (n - 0) remotes₁) (take (n - 0) receives₁) rate p t
+        → Gives (call (linkOf acked control) callHere) number (linkOf after control₁)
+    unfolding acceptedWith
+    report-accepted z er e = rw (← the-report h, judged-here .accepts z control, e, er, ep, et, sub-zero n, z) (record { number-is = refl; link-is = refl })
+
+    pub report-refused : (number ≡ 0 → ⊥) → Gives (call (linkOf acked control) callHere) number (linkOf after control)
+    report-refused z = rw (← the-report h, judged-here .refuses z .1 control, judged-here .refuses z .0) (record { number-is = refl; link-is = refl })
+
+  -- a timeout
+  module _ (h : kind file k ≡ Records.report → ⊥) where
+    the-timeout : L.timeoutInRange (linkOf acked control) (receive file k) ≡ call (linkOf acked control) callHere
+    the-timeout = rw (ne-eqb (kind file k) Records.report h) (timeout-in-range (linkOf acked control) (receive file k) y1)
+
+    module _ {t : ℕ} (et : t ≡ receive file k) {number : ℕ} (e : number ≡ timeoutNumber t) where
+      pub timeout-accepted : {rate : OptionBitrate} {control₁ : DelayController} → number ≡ 0 → rate ≡ acked .estimate → control₁ ≡ Control.handleTimeout control rate t
+          → Gives (call (linkOf acked control) callHere) number (linkOf acked control₁)
+      unfolding acceptedWith timedOut
+      timeout-accepted z er f =
+          rw (← the-timeout, timeout-yes (linkOf acked control) (receive file k) (moment-yes (momentIn (receive file k)) (ap timeoutNumber (sym et) ∙ sym e ∙ z)), f, er, et, z)
+          (record { number-is = refl; link-is = refl })
+
+      pub timeout-refused : (number ≡ 0 → ⊥) → Gives (call (linkOf acked control) callHere) number (linkOf acked control)
+      timeout-refused z =
+          let m : momentIn (receive file k) ≡ false = moment-no (momentIn (receive file k)) (λ q. z (e ∙ ap timeoutNumber et ∙ q)) in
+          rw (← the-timeout, timeout-7 (linkOf acked control) (receive file k) m, e, et, m)
+          (record { number-is = refl; link-is = refl })
+
+-- ---- a call's turn
+-- the line, from what the controller says
+pub line-of : (k number : ℕ) (c : DelayController) {estimate : Bitrate} {hypothesis : BandwidthUsage} {next : ℕ} → estimate ≡ c .«rate_control» .«estimated_bitrate»
+    → hypothesis ≡ c .«trendline_estimator» .hypothesis → next ≡ c .«next_timeout» → lineWith k number estimate hypothesis next ≡ lineOf k number c
+line-of k number c e f g = rw (e, f, g)
+
+module _ {file old ks out sequences sizes sends remotes receives : List ℕ} {acked : AckedBitrateEstimator} {control : DelayController} {n at k : ℕ}
+    (p : Progress file old (k ∷ ks) out sequences sizes sends remotes receives (linkOf acked control) n at) where
+  -- after a report no packet waits
+  pub reported : {new sizes₁ sends₁ remotes₁ receives₁ line : List ℕ} {after : AckedBitrateEstimator} {control₁ : DelayController} {place number : ℕ} → kind file k ≡ Records.report
+      → Gives (call (linkOf acked control) (callOf file k (take (n - 0) sequences) (take (n - 0) sizes) (take (n - 0) sends) (take (n - 0) remotes) (take (n - 0) receives))) number (linkOf after control₁)
+      → KeptLengths sequences sizes₁ sends₁ remotes₁ receives₁ → line ≡ lineOf k number control₁ → new ≡ putLine out at line → place ≡ placeAfter out at line
+      → Progress file old ks new sequences sizes₁ sends₁ remotes₁ receives₁ (linkOf after control₁) 0 place
+  reported h g l e a b = called (λ q. absurd (omega arith)) p g (rw e at a) (rw e at b) (rw (eq-eqb (kind file k) Records.report h) (none-kept l))
+
+  -- after a timeout those that waited do
+  pub timed : {new line : List ℕ} {control₁ : DelayController} {place number : ℕ} → (kind file k ≡ Records.packet → ⊥) → (kind file k ≡ Records.report → ⊥)
+      → Gives (call (linkOf acked control) (callOf file k (take (n - 0) sequences) (take (n - 0) sizes) (take (n - 0) sends) (take (n - 0) remotes) (take (n - 0) receives))) number (linkOf acked control₁)
+      → line ≡ lineOf k number control₁ → new ≡ putLine out at line → place ≡ placeAfter out at line
+      → Progress file old ks new sequences sizes sends remotes receives (linkOf acked control₁) n place
+  timed h i g e a b = called h p g (rw e at a) (rw e at b) (rw (ne-eqb (kind file k) Records.report i) (p .kept))
 
 -- a text at the start of the output, and after it the bytes that were there
 pub at-start : {out text new : List ℕ} {end : ℕ} → length text ≤ length out → Wrote out 0 text new end → (end ≡ length text) × (new ≡ text ++ drop (length text) out)

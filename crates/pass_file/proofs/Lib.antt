@@ -1,1 +1,2 @@
 mod Chain
+mod Judging

@@ -23,6 +23,7 @@ use Rattle.link.specs.Link.{
   opened,
   opening,
   outcomeUnless,
+  refusal,
   reportQuestions,
   startIn,
   timeoutQuestions,
@@ -39,7 +40,7 @@ use Rattle.pass_records.specs.declared.Judged.{Judged}
 use Rattle.pass_records.specs.declared.Judged.the-variants.{Linked, BadLength, BadKind, BadNext}
 use Rattle.listing_line.specs.Laws.{line-short}
 use Rattle.pass_file.specs.PassFile as PassFile
-use Rattle.pass_file.specs.PassFile.{Numbered, answerUnless, calls, first, leastOutput, letter, lines, list, listed, listing, refusal, shown}
+use Rattle.pass_file.specs.PassFile.{Numbered, answerUnless, calls, first, leastOutput, letter, lines, list, listed, listing, shown}
 
 -- ---- the length of a line
 -- no question has a number above n

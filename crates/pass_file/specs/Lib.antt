@@ -1,4 +1,5 @@
 pub mod PassFile
+pub mod Judged
 pub mod Laws
 pub mod Rows
 pub mod Unlinked

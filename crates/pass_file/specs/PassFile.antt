@@ -10,12 +10,13 @@ use lib.Ieee.{binary64, ofBits, toBits}
 use Rattle.bandwidth.specs.Bandwidth.{rate, bps}
 use Rattle.bandwidth.specs.declared.OptionBitrate.{OptionBitrate}
 use Rattle.bandwidth.specs.declared.OptionBitrate.the-variants as Rate
+use Rattle.bandwidth.specs.declared.Bitrate.{Bitrate}
 use Rattle.bandwidth.specs.declared.BandwidthUsage.{BandwidthUsage}
 use Rattle.bandwidth.specs.declared.BandwidthUsage.the-variants as Usage
 use Rattle.control.specs.declared.DelayController.{DelayController}
 use Rattle.link_state.specs.declared.Link.{Link}
 use Rattle.link.specs.Link as L
-use Rattle.link.specs.Link.{Reply, Outcome, accepted, refused, report-of}
+use Rattle.link.specs.Link.{Outcome, mostPackets, refusal, report-of}
 use Rattle.link_runs.specs.Statement.{Call, call, report, timeout}
 use Rattle.pass_records.specs.PassRecords as Records
 use Rattle.pass_records.specs.PassRecords.{kind, flag, size, sequence, send, remote, receive, probeBits, chain, judge, number}
@@ -56,19 +57,17 @@ calls file waiting (k ∷ ks) =
     (record { number = k; call = callAt file k waiting } ∷ calls file (cond (eqb (kind file k) Records.report) [] waiting) ks)
 
 -- ---- the listing
-abbrev pub refusal : Reply → ℕ
-refusal (accepted e u t) = 0
-refusal (refused n) = n
-
 abbrev pub letter : BandwidthUsage → ℕ
 letter Usage.Overuse = code "O"
 letter Usage.Normal = code "N"
 letter Usage.Underuse = code "U"
 
--- the line of record k, with the number that its call got and the link's controller after it
+-- the line of record k, with the number that its call got and what the link's controller then says
+abbrev pub lineWith : ℕ → ℕ → Bitrate → BandwidthUsage → ℕ → List ℕ
+lineWith k number estimate hypothesis next = line k number (letter hypothesis) (toBits binary64 (estimate .0)) next
+
 abbrev pub lineOf : ℕ → ℕ → DelayController → List ℕ
-lineOf k number c =
-    line k number (letter (c .«trendline_estimator» .hypothesis)) (toBits binary64 (c .«rate_control» .«estimated_bitrate» .0)) (c .«next_timeout»)
+lineOf k number c = lineWith k number (c .«rate_control» .«estimated_bitrate») (c .«trendline_estimator» .hypothesis) (c .«next_timeout»)
 
 -- what a call gave, and the link after it, which a refused call leaves as it was
 unfoldable pub shown : ℕ → Outcome → List ℕ
@@ -103,6 +102,14 @@ answer Listed.BadKind = turnedDown 11
 answer Listed.BadNext = turnedDown 12
 answer Listed.ShortOutput = turnedDown 13
 
+-- the number of the question that a file fails, or 0
+abbrev pub failed : Listed → ℕ
+failed (Listed.Listing n) = 0
+failed Listed.BadLength = 10
+failed Listed.BadKind = 11
+failed Listed.BadNext = 12
+failed Listed.ShortOutput = 13
+
 abbrev pub answerUnless : ℕ → List ℕ → Answer
 answerUnless zero text = listed (length text)
 answerUnless (suc n) text = turnedDown (suc n)
@@ -120,7 +127,7 @@ output file out = outputUnless (firstNo file (length out)) (listing file) out
 
 -- ---- the packets that are kept: of a report with more than 1,025 any 1,025 give the same answer
 abbrev pub mostWaiting : ℕ
-mostWaiting = 1025
+mostWaiting = suc mostPackets
 
 -- how many are kept after one more
 abbrev pub oneMore : ℕ → ℕ

@@ -1,22 +1,17 @@
 // Document 01, pass file and program: the listing of a pass file, a line for each call of a link, written into a lent buffer.
 ghost use mathlib.Core.Path.{_≡_};
-ghost use mathlib.Core.Bool.{true};
 ghost use Prim.Native.Nat.{_≤_};
-ghost use lib.ListN.{length, set};
-ghost use Rattle.link_state.specs.State.{inRange};
-ghost use Rattle.link.specs.Link.{outcome, reply};
-ghost use Rattle.link_runs.specs.Statement as Runs;
+ghost use lib.ListN.{length, set, take};
 ghost use Rattle.pass_records.specs.PassRecords as Records;
 ghost use Rattle.pass_records.specs.declared.Judged.the-variants.{Linked};
 ghost use Rattle.listing_line.specs.ListingLine.{putLine, placeAfter, Wrote};
 ghost use Rattle.pass_file.specs.PassFile as PassFile;
+ghost use Rattle.pass_file.specs.Judged.{JudgesReport, reportOfFirst, timeoutNumber};
 use acked_bitrate_estimator::AckedBitrateEstimator;
 use bandwidth::BandwidthUsage;
 use bandwidth::Bitrate;
 use bandwidth::OptionBitrate;
 use control::DelayController;
-use link::Answer;
-use link::Called;
 use link_state::Link;
 use pass_records::Following;
 use pass_records::Judged;
@@ -25,7 +20,7 @@ use pass_records::Judged;
 pub const LEAST_OUTPUT: usize = 65_536;
 
 // How many waiting packets are kept: one more than a report may have. With more than that the report is refused, whatever they are.
-const MOST_WAITING: usize = 1025;
+const MOST_WAITING: usize = link::MOST_PACKETS + 1;
 
 // A listing of so many bytes, or the first question that the file fails.
 pub enum Listed {
@@ -34,6 +29,21 @@ pub enum Listed {
     BadKind,
     BadNext,
     ShortOutput,
+}
+
+impl Listed {
+    // The number of the question that the file fails, or 0.
+    pub fn number(self) -> u64
+        ensures { λ r. ⌜ r ≡ PassFile.failed self ⌝ }
+    {
+        match self {
+            Listed::Listing(_) => 0,
+            Listed::BadLength => 10,
+            Listed::BadKind => 11,
+            Listed::BadNext => 12,
+            Listed::ShortOutput => 13,
+        }
+    }
 }
 
 // ---- a call
@@ -55,44 +65,63 @@ fn probe(file: &[u8], k: usize) -> OptionBitrate
     OptionBitrate::None
 }
 
-// The call of record k: a report of the packets given, or a timeout. A link that a run reaches is in range, so question 1 is not put.
-fn call(
-    file: &[u8],
-    k: usize,
+// The number that a report gets, and the acknowledged-rate estimator after it.
+struct JudgedReport {
+    number: u64,
+    acked: AckedBitrateEstimator,
+}
+
+// Questions 4 to 9 of a report of the first n packets, which are then in the order of receipt.
+fn judge_report(
+    acked: AckedBitrateEstimator,
+    n: usize,
     sequences: &[u64],
-    sizes: &[u64],
-    sends: &[u64],
-    remotes: &[u64],
-    receives: &[u64],
-    link: Link,
-) -> Called
-    requires { ⌜ inRange link ≡ true ⌝ }
-    ensures { λ r. ⌜ outcome r ≡ Runs.call link (PassFile.callOf (now (file .entry)) k (now (sequences .entry)) (now (sizes .entry)) (now (sends .entry)) (now (remotes .entry)) (now (receives .entry))) ⌝ }
+    sizes: &mut [u64],
+    sends: &mut [u64],
+    remotes: &mut [u64],
+    receives: &mut [u64],
+    probe: OptionBitrate,
+    moment: u64,
+) -> JudgedReport
+    requires { ⌜ n ≤ PassFile.mostWaiting ⌝ }
+    requires { ⌜ PassFile.KeptLengths (now sequences) (now sizes) (now sends) (now remotes) (now receives) ⌝ }
+    ensures { λ r. ⌜ JudgesReport acked (reportOfFirst n (now (sequences .entry)) (now (sizes .entry)) (now (sends .entry)) (now (remotes .entry)) (now (receives .entry)) probe moment) (r .number) (r .acked)
+        (take n (now (sends .exit))) (take n (now (remotes .exit))) (take n (now (receives .exit))) ⌝ }
+    ensures { λ _. ⌜ PassFile.KeptLengths (now (sequences .entry)) (now (sizes .exit)) (now (sends .exit)) (now (remotes .exit)) (now (receives .exit)) ⌝ }
 {
-    let now = pass_records::receive(file, k);
-    if pass_records::kind(file, k) == pass_records::REPORT {
-        let probe = probe(file, k);
-        return link::report_in_range(link, sequences, sizes, sends, remotes, receives, probe, now);
+    let form = link::report_form(
+        &sequences[0..n],
+        &sizes[0..n],
+        &sends[0..n],
+        &remotes[0..n],
+        &receives[0..n],
+        probe,
+        moment,
+    );
+    let number = form.number();
+    if number != 0 {
+        return JudgedReport { number, acked };
     }
-    link::timeout_in_range(link, now)
+    receive_order::put_in_order(n, sequences, sizes, sends, remotes, receives);
+    let done = link::acknowledge(acked, &remotes[0..n], &sizes[0..n]);
+    if done.sums_in {
+        let acked = done.acked;
+        return JudgedReport { number: 0, acked };
+    }
+    JudgedReport { number: 9, acked }
+}
+
+// Question 7 of a timeout: the number that it gets.
+fn judge_timeout(now: u64) -> u64
+    ensures { λ r. ⌜ r ≡ timeoutNumber now ⌝ }
+{
+    if link::moment_in(now) {
+        return 0;
+    }
+    7
 }
 
 // ---- its line
-fn refusal(answer: Answer) -> u64
-    ensures { λ r. ⌜ r ≡ PassFile.refusal (reply answer) ⌝ }
-{
-    match answer {
-        Answer::Accepted(_) => 0,
-        Answer::OutOfRange => 1,
-        Answer::BadLists => 4,
-        Answer::BadInstant => 5,
-        Answer::BadSize => 6,
-        Answer::BadMoment => 7,
-        Answer::BadProbe => 8,
-        Answer::TooManyBytes => 9,
-    }
-}
-
 fn letter(hypothesis: BandwidthUsage) -> u8
     ensures { λ r. ⌜ r ≡ PassFile.letter hypothesis ⌝ }
 {
@@ -103,20 +132,28 @@ fn letter(hypothesis: BandwidthUsage) -> u8
     }
 }
 
-// The line of record k, from the number that its call got and the link's controller after it.
-fn put_called(out: &mut [u8], at: usize, k: usize, number: u64, control: DelayController) -> usize
-    ensures { λ r. ⌜ now (out .exit) ≡ putLine (now (out .entry)) at (PassFile.lineOf k number control) ⌝ }
-    ensures { λ r. ⌜ r ≡ placeAfter (now (out .entry)) at (PassFile.lineOf k number control) ⌝ }
+// The line of record k, from the number that its call got and what the link's controller then says.
+fn put_called(
+    out: &mut [u8],
+    at: usize,
+    k: usize,
+    number: u64,
+    estimate: Bitrate,
+    hypothesis: BandwidthUsage,
+    next_timeout: u64,
+) -> usize
+    ensures { λ r. ⌜ now (out .exit) ≡ putLine (now (out .entry)) at (PassFile.lineWith k number estimate hypothesis «next_timeout») ⌝ }
+    ensures { λ r. ⌜ r ≡ placeAfter (now (out .entry)) at (PassFile.lineWith k number estimate hypothesis «next_timeout») ⌝ }
 {
-    let bits = float_bits::to_bits(control.last_estimate().as_f64());
+    let bits = float_bits::to_bits(estimate.as_f64());
     listing_line::put_line(
         out,
         at,
         k as u64,
         number,
-        letter(control.hypothesis()),
+        letter(hypothesis),
         bits,
-        control.poll_timeout(),
+        next_timeout,
     )
 }
 
@@ -129,10 +166,9 @@ fn put(list: &mut [u64], i: usize, x: u64)
     }
 }
 
-// Record k joins the n that wait.
+// A packet's record joins the n that wait.
 fn wait(
-    file: &[u8],
-    k: usize,
+    bytes: &[u8],
     n: usize,
     sequences: &mut [u64],
     sizes: &mut [u64],
@@ -142,17 +178,17 @@ fn wait(
 ) -> usize
     requires { ⌜ n ≤ PassFile.mostWaiting ⌝ }
     ensures { λ r. ⌜ r ≡ PassFile.oneMore n ⌝ }
-    ensures { λ _. ⌜ now (sequences .exit) ≡ set (now (sequences .entry)) n (Records.sequence (now (file .entry)) k) ⌝ }
-    ensures { λ _. ⌜ now (sizes .exit) ≡ set (now (sizes .entry)) n (Records.size (now (file .entry)) k) ⌝ }
-    ensures { λ _. ⌜ now (sends .exit) ≡ set (now (sends .entry)) n (Records.send (now (file .entry)) k) ⌝ }
-    ensures { λ _. ⌜ now (remotes .exit) ≡ set (now (remotes .entry)) n (Records.remote (now (file .entry)) k) ⌝ }
-    ensures { λ _. ⌜ now (receives .exit) ≡ set (now (receives .entry)) n (Records.receive (now (file .entry)) k) ⌝ }
+    ensures { λ _. ⌜ now (sequences .exit) ≡ set (now (sequences .entry)) n (Records.sequence (now (bytes .entry)) 1) ⌝ }
+    ensures { λ _. ⌜ now (sizes .exit) ≡ set (now (sizes .entry)) n (Records.size (now (bytes .entry)) 1) ⌝ }
+    ensures { λ _. ⌜ now (sends .exit) ≡ set (now (sends .entry)) n (Records.send (now (bytes .entry)) 1) ⌝ }
+    ensures { λ _. ⌜ now (remotes .exit) ≡ set (now (remotes .entry)) n (Records.remote (now (bytes .entry)) 1) ⌝ }
+    ensures { λ _. ⌜ now (receives .exit) ≡ set (now (receives .entry)) n (Records.receive (now (bytes .entry)) 1) ⌝ }
 {
-    put(sequences, n, pass_records::sequence(file, k));
-    put(sizes, n, pass_records::size(file, k) as u64);
-    put(sends, n, pass_records::send(file, k));
-    put(remotes, n, pass_records::remote(file, k));
-    put(receives, n, pass_records::receive(file, k));
+    put(sequences, n, pass_records::sequence(bytes, 1));
+    put(sizes, n, pass_records::size(bytes, 1) as u64);
+    put(sends, n, pass_records::send(bytes, 1));
+    put(remotes, n, pass_records::remote(bytes, 1));
+    put(receives, n, pass_records::receive(bytes, 1));
     if n < MOST_WAITING {
         return n + 1;
     }
@@ -160,7 +196,8 @@ fn wait(
 }
 
 // ---- the listing
-// The lines along the chain of a file of `last` records.
+// The lines along the chain of a file of `last` records. A link that a run reaches is in range, so question 1 is not put; its two parts are kept
+// apart, so that a call copies only what it changes.
 fn list_chain(
     file: &[u8],
     last: usize,
@@ -176,46 +213,72 @@ fn list_chain(
     requires { ⌜ PassFile.KeptLengths (now sequences) (now sizes) (now sends) (now remotes) (now receives) ⌝ }
     ensures { λ r. ⌜ Wrote (now (out .entry)) 0 (PassFile.listing (now (file .entry))) (now (out .exit)) r ⌝ }
 {
-    let mut link = link;
+    let mut acked = link.acked;
+    let mut control = link.control;
     let mut n = 0;
     let mut at = 0;
     let mut k = 1;
     loop {
-        if pass_records::kind(file, k) == pass_records::PACKET {
-            n = wait(file, k, n, sequences, sizes, sends, remotes, receives);
-        } else {
-            let called = call(
-                file,
-                k,
-                &sequences[0..n],
-                &sizes[0..n],
-                &sends[0..n],
-                &remotes[0..n],
-                &receives[0..n],
-                link,
+        let start = (k - 1) * pass_records::RECORD_BYTES;
+        let end = start + pass_records::RECORD_BYTES;
+        let bytes = &file[start..end];
+        let kind = pass_records::kind(bytes, 1);
+        let now = pass_records::receive(bytes, 1);
+        if kind == pass_records::PACKET {
+            n = wait(bytes, n, sequences, sizes, sends, remotes, receives);
+        } else if kind == pass_records::REPORT {
+            let probe = probe(bytes, 1);
+            let judged = judge_report(
+                acked,
+                n,
+                sequences,
+                sizes,
+                sends,
+                remotes,
+                receives,
+                probe,
+                now,
             );
-            let answer = called.answer;
-            link = called.link;
-            let control = link.control;
-            at = put_called(out, at, k, refusal(answer), control);
-            if pass_records::kind(file, k) == pass_records::REPORT {
-                n = 0;
+            acked = judged.acked;
+            if judged.number == 0 {
+                control = control.update(
+                    &sends[0..n],
+                    &remotes[0..n],
+                    &receives[0..n],
+                    acked.current_estimate(),
+                    probe,
+                    now,
+                );
             }
+            n = 0;
+            at = put_called(
+                out,
+                at,
+                k,
+                judged.number,
+                control.last_estimate(),
+                control.hypothesis(),
+                control.poll_timeout(),
+            );
+        } else {
+            let number = judge_timeout(now);
+            if number == 0 {
+                control = control.handle_timeout(acked.current_estimate(), now);
+            }
+            at = put_called(
+                out,
+                at,
+                k,
+                number,
+                control.last_estimate(),
+                control.hypothesis(),
+                control.poll_timeout(),
+            );
         }
-        match pass_records::follows(file, last, k) {
-            Following::Next(next) => {
-                k = next;
-            }
-            Following::End => {
-                return at;
-            }
-            Following::BadKind => {
-                return at;
-            }
-            Following::BadNext => {
-                return at;
-            }
-        }
+        let Following::Next(next) = pass_records::successor(bytes, last, k) else {
+            return at;
+        };
+        k = next;
     }
 }
 

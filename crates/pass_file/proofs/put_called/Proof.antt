@@ -5,17 +5,10 @@ use Rattle.pass_file.proofs.put_called.Tie as tie
 
 returns : tie.Need-returns
 returns c =
-    simp (
-      c .before .before .before .poll-timeout .ensures,
-      c .before .before .before .before .letter .ensures,
-      c .before .before .before .before .before .hypothesis .ensures,
-      c .before .before .before .before .before .before .before .to-bits .ensures,
-      c .before .before .before .before .before .before .before .before .as-f64 .ensures,
-      c .before .before .before .before .before .before .before .before .before .last-estimate .ensures,
-    )
+    simp (c .before .before .before .letter .ensures, c .before .before .before .before .before .to-bits .ensures, c .before .before .before .before .before .before .as-f64 .ensures)
     at (c .before .before .put-line .ensures)
 
 pub put-called-spec : {M : Type 1} → statement M
 put-called-spec =
     tie.close
-    (tie.spec (λ c κs. search needs) (λ c κs. search needs) (λ c κs. search needs) (λ c κs. search needs) (λ c κs. search needs) (λ c κs. search needs) (λ c κs. search needs) (λ c. search needs) returns)
+    (tie.spec (λ c κs. search needs) (λ c κs. search needs) (λ c κs. search needs) (λ c κs. search needs) (λ c. search needs) returns)
