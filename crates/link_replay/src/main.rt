@@ -62,19 +62,6 @@ fn counted(counts: Counts, packet: bool, agrees: bool) -> Counts {
     c
 }
 
-fn number(answer: Answer) -> u64 {
-    match answer {
-        Answer::Accepted(_) => 0,
-        Answer::OutOfRange => 1,
-        Answer::BadLists => 4,
-        Answer::BadInstant => 5,
-        Answer::BadSize => 6,
-        Answer::BadMoment => 7,
-        Answer::BadProbe => 8,
-        Answer::TooManyBytes => 9,
-    }
-}
-
 fn delta_tag(d: TimeDelta) -> u64 {
     match d {
         TimeDelta::NegativeInfinity => 1,
@@ -251,7 +238,7 @@ fn opening(done: Done, block: &[u8], at: usize) -> Done {
 fn called(c: link::Called, waiting: usize, counts: Counts, block: &[u8], at: usize) -> Done {
     let answer = c.answer;
     let link = c.link;
-    let ok = agrees(block, at, shown(number(answer), link));
+    let ok = agrees(block, at, shown(answer.number(), link));
     Done {
         link,
         waiting,

@@ -147,24 +147,7 @@ fn well_formed(file: &[u8], k: usize) -> bool
     (PACKET <= kind) & (kind <= TIMEOUT)
 }
 
-// What follows record k of `last` records.
-pub fn follows(file: &[u8], last: usize, k: usize) -> Following
-    ensures { λ r. ⌜ r ≡ Records.follows (now (file .entry)) last k ⌝ }
-{
-    if !well_formed(file, k) {
-        return Following::BadKind;
-    }
-    let next = next(file, k) as usize;
-    if next == 0 {
-        return Following::End;
-    }
-    if (k < next) & (next <= last) {
-        return Following::Next(next);
-    }
-    Following::BadNext
-}
-
-// What follows record k of `last` records, by that record's own bytes.
+// What follows record k of `last` records, by the record's own bytes.
 pub fn successor(bytes: &[u8], last: usize, k: usize) -> Following
     ensures { λ r. ⌜ r ≡ Records.successor (now (bytes .entry)) last k ⌝ }
 {

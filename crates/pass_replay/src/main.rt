@@ -27,16 +27,6 @@ struct Header {
     packets: u32,
 }
 
-fn number(listed: Listed) -> u32 {
-    match listed {
-        Listed::Listing(_) => 0,
-        Listed::BadLength => 10,
-        Listed::BadKind => 11,
-        Listed::BadNext => 12,
-        Listed::ShortOutput => 13,
-    }
-}
-
 fn listing(listed: Listed) -> usize {
     match listed {
         Listed::Listing(bytes) => bytes,
@@ -70,7 +60,7 @@ fn holds(out: &[u8], text: &[u8]) -> bool {
 fn agrees(file: &[u8], out: &mut [u8], text: &[u8], expected: u32) -> bool {
     fill(out);
     let listed = pass_file::list(file, out);
-    (number(listed) == expected) & (listing(listed) == text.len()) & holds(out, text)
+    (listed.number() == expected as u64) & (listing(listed) == text.len()) & holds(out, text)
 }
 
 fn read_header(header: &[u8]) -> Header {

@@ -13,15 +13,12 @@ fn main() {
     let mut input = [0u8; 65_521];
     let mut out = [0u8; 65_536];
     let n = io::read_full(STDIN_FILENO, &mut input);
-    match pass_file::list(&input[0..n], &mut out) {
-        Listed::Listing(bytes) => {
-            if bytes <= 65_536 {
-                io::write_all(STDOUT_FILENO, &out[0..bytes]);
-            }
-        }
-        Listed::BadLength => refuse(10),
-        Listed::BadKind => refuse(11),
-        Listed::BadNext => refuse(12),
-        Listed::ShortOutput => refuse(13),
+    let listed = pass_file::list(&input[0..n], &mut out);
+    let Listed::Listing(bytes) = listed else {
+        refuse(listed.number());
+        return;
+    };
+    if bytes <= 65_536 {
+        io::write_all(STDOUT_FILENO, &out[0..bytes]);
     }
 }
