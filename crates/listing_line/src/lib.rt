@@ -9,7 +9,8 @@ fn digit(d: u8) -> u8
     requires { ⌜ d < 16 ⌝ }
     ensures { λ r. ⌜ r ≡ Line.digit d ⌝ }
 {
-    if d < 10 { 48 + d } else { 87 + d }
+    let digits = b"0123456789abcdef";
+    digits[d as usize]
 }
 
 // How many digits n takes in base 10.
