@@ -276,16 +276,21 @@ pub fn acknowledge(acked: AckedBitrateEstimator, remotes: &[u64], sizes: &[u64])
     ensures { λ r. ⌜ (r .acked ≡ Calls.acknowledge acked (now (remotes .entry)) (now (sizes .entry)))
         × (r .«sums_in» ≡ Calls.sumsIn acked (now (remotes .entry)) (now (sizes .entry))) ⌝ }
 {
-    let known = acked.known();
-    if let OptionKnown::Some(known) = known {
-        return acknowledge_known(known, remotes, sizes);
-    }
     let mut acked = acked;
     let mut sums_in = true;
     let mut i = 0;
     while i < remotes.len() {
         if sizes.len() <= i {
             return Acknowledged { acked, sums_in };
+        }
+        let taken = acked.known();
+        if let OptionKnown::Some(known) = taken {
+            let rest = acknowledge_known(known, &remotes[i..], &sizes[i..]);
+            let acked = rest.acked;
+            return Acknowledged {
+                acked,
+                sums_in: sums_in & rest.sums_in,
+            };
         }
         acked = acked.update(remotes[i], data_size(sizes[i]));
         let sum = acked.sum;
