@@ -99,7 +99,9 @@ fn main() {
         Some("list") if words.len() == 2 => pass_files::list(),
         Some("passes") if words.len() == 5 => pass_files::make(words[2].parse().unwrap(), words[3].parse().unwrap(), words[4] == "long"),
         #[cfg(bench)]
-        Some("bench") if words.len() == 3 => bench::bench(words[2].parse().unwrap()),
+        Some("bench") if words.len() == 4 => bench::bench(words[2].parse().unwrap(), words[3].parse().unwrap()),
+        #[cfg(bench)]
+        Some("times") if words.len() == 3 => bench::times(words[2].parse().unwrap()),
         #[cfg(bench)]
         Some("turns") if words.len() == 5 => bench::turns(&words[2], &words[3], words[4].parse().unwrap()),
         _ => {
