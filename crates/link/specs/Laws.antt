@@ -11,7 +11,7 @@ use lib.ListN.{length}
 use borrow.Author.Tests.{eqb-true, leb-true}
 use Rattle.bandwidth.specs.declared.Bitrate.{Bitrate}
 use Rattle.bandwidth.specs.declared.OptionBitrate.{OptionBitrate}
-use Rattle.receive_order.specs.ReceiveOrder.{count, isSorted}
+use Rattle.receive_order.specs.ReceiveOrder.{count, isSorted, mostPackets}
 use Rattle.receive_order.specs.Laws.{ordered-sorted}
 use Rattle.link_state.specs.State.{inRange}
 use Rattle.link_state.specs.declared.Link.{Link}
@@ -90,7 +90,7 @@ module _ (sequences sizes sends remotes receives : List ℕ) (y4 : listsIn seque
       × (length remotes ≡ count remotes sends sequences) × (length receives ≡ count remotes sends sequences)
   unfolding listsIn
   lists-count =
-      let five = both _ (leb (length sequences) 1024) y4 in
+      let five = both _ (leb (length sequences) mostPackets) y4 in
       let four = both _ (eqb (length receives) (length sequences)) (five .0) in
       let three = both _ (eqb (length remotes) (length sequences)) (four .0) in
       let two = both (eqb (length sizes) (length sequences)) (eqb (length sends) (length sequences)) (three .0) in
@@ -98,7 +98,7 @@ module _ (sequences sizes sends remotes receives : List ℕ) (y4 : listsIn seque
       let other : length sends ≡ length sequences = eqb-true _ _ (two .1) in
       let third : length remotes ≡ length sequences = eqb-true _ _ (three .1) in
       let fourth : length receives ≡ length sequences = eqb-true _ _ (four .1) in
-      let few : length sequences ≤ 1024 = leb-true _ _ (five .1) in
+      let few : length sequences ≤ mostPackets = leb-true _ _ (five .1) in
       (omega arith, omega arith, omega arith, omega arith)
 
 -- packets that came in the order of receipt

@@ -17,7 +17,7 @@ use Rattle.acked_bitrate_estimator.specs.AckedBitrateEstimator as Acked
 use Rattle.acked_bitrate_estimator.specs.declared.AckedBitrateEstimator.{AckedBitrateEstimator}
 use Rattle.control.specs.Control as Control
 use Rattle.control.specs.Control.{minEstimate, maxEstimate}
-use Rattle.receive_order.specs.ReceiveOrder.{receiveOrder, entries}
+use Rattle.receive_order.specs.ReceiveOrder.{receiveOrder, entries, mostPackets}
 use Rattle.link_state.specs.State.{within, mostRate, mostBytes, windowIn, inRange}
 use Rattle.link_state.specs.declared.Link.{Link}
 use Rattle.link.specs.declared.Opening.{Opening}
@@ -143,10 +143,6 @@ pub record Report : Type 0 where
 abbrev pub report-of : List ℕ → List ℕ → List ℕ → List ℕ → List ℕ → OptionBitrate → ℕ → Report
 report-of sequences sizes sends remotes receives probe now =
     record { sequences = sequences; sizes = sizes; sends = sends; remotes = remotes; receives = receives; probe = probe; now = now }
-
--- the most packets of a report
-abbrev pub mostPackets : ℕ
-mostPackets = 1024
 
 abbrev pub mostInstant : ℕ
 mostInstant = 10 ^ 18

@@ -94,9 +94,6 @@ pub enum Opened {
     BadWindow,
 }
 
-// The most packets of a report.
-pub const MOST_PACKETS: usize = 1024;
-
 const MOST_INSTANT: u64 = 1_000_000_000_000_000_000;
 
 const MOST_BYTES: DataSize = DataSize(2_147_483_647);
@@ -157,7 +154,7 @@ fn lists_in(
         & (sends.len() == n)
         & (remotes.len() == n)
         & (receives.len() == n)
-        & (n <= MOST_PACKETS)
+        & (n <= receive_order::MOST_PACKETS)
 }
 
 fn all_at_most(xs: &[u64], most: u64) -> bool

@@ -16,10 +16,11 @@ use Rattle.bandwidth.specs.declared.Bitrate.{Bitrate}
 use Rattle.bandwidth.specs.declared.OptionBitrate.{OptionBitrate}
 use Rattle.control.specs.Control as Control
 use Rattle.control.specs.declared.DelayController.{DelayController}
+use Rattle.receive_order.specs.ReceiveOrder.{mostPackets}
 use Rattle.link_state.specs.State.{inRange}
 use Rattle.link_state.specs.declared.Link.{Link}
 use Rattle.link.specs.Link as L
-use Rattle.link.specs.Link.{Outcome, Report, acceptedWith, listsIn, momentIn, mostPackets, refusal, report-of, timedOut}
+use Rattle.link.specs.Link.{Outcome, Report, acceptedWith, listsIn, momentIn, refusal, report-of, timedOut}
 use Rattle.link.specs.Laws.{report-4, report-in-range, timeout-7, timeout-in-range, timeout-yes}
 use Rattle.link_runs.specs.Statement.{Call, call, report, timeout}
 use Rattle.link_runs.specs.Good.{Good, call-good}

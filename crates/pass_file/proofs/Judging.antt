@@ -9,7 +9,7 @@ use lib.ListN.{length, length-take, take}
 use Rattle.acked_bitrate_estimator.specs.declared.AckedBitrateEstimator.{AckedBitrateEstimator}
 use Rattle.bandwidth.specs.declared.OptionBitrate.{OptionBitrate}
 use Rattle.control.specs.declared.DelayController.{DelayController}
-use Rattle.receive_order.specs.ReceiveOrder.{putInOrder}
+use Rattle.receive_order.specs.ReceiveOrder.{mostPackets, putInOrder}
 use Rattle.receive_order.specs.Laws.{put-front, put-length}
 use Rattle.link_state.specs.declared.Link.{Link}
 use Rattle.link.specs.Link.{Outcome, Report, acknowledge, byForm, firstNo, formNumber, formQuestions, inOrder, processed, refusedBy, report-of, reportInRange, sumsIn, updatedBy}
@@ -67,7 +67,7 @@ module _ (n : ℕ) (sequences sizes sends remotes receives : List ℕ) (probe : 
   form-first form e f = e ∙ rw (sub-zero n) at f
 
   module _ (m : n ≤ mostWaiting) (rooms : KeptLengths sequences sizes sends remotes receives) (form : 0 ≡ firstNo (formQuestions theReport)) where
-    few : n ≤ 1024
+    few : n ≤ mostPackets
     few =
         omega (
           arith,

@@ -16,7 +16,8 @@ use Rattle.bandwidth.specs.declared.BandwidthUsage.the-variants as Usage
 use Rattle.control.specs.declared.DelayController.{DelayController}
 use Rattle.link_state.specs.declared.Link.{Link}
 use Rattle.link.specs.Link as L
-use Rattle.link.specs.Link.{Outcome, mostPackets, refusal, report-of}
+use Rattle.link.specs.Link.{Outcome, refusal, report-of}
+use Rattle.receive_order.specs.ReceiveOrder.{mostPackets}
 use Rattle.link_runs.specs.Statement.{Call, call, report, timeout}
 use Rattle.pass_records.specs.PassRecords as Records
 use Rattle.pass_records.specs.PassRecords.{kind, flag, size, sequence, send, remote, receive, probeBits, chain, judge, number}
@@ -102,13 +103,10 @@ answer Listed.BadKind = turnedDown 11
 answer Listed.BadNext = turnedDown 12
 answer Listed.ShortOutput = turnedDown 13
 
--- the number of the question that a file fails, or 0
-abbrev pub failed : Listed → ℕ
-failed (Listed.Listing n) = 0
-failed Listed.BadLength = 10
-failed Listed.BadKind = 11
-failed Listed.BadNext = 12
-failed Listed.ShortOutput = 13
+-- the number of the question that turned a file down, or 0
+abbrev pub answerNumber : Answer → ℕ
+answerNumber (listed n) = 0
+answerNumber (turnedDown n) = n
 
 abbrev pub answerUnless : ℕ → List ℕ → Answer
 answerUnless zero text = listed (length text)

@@ -20,7 +20,7 @@ use pass_records::Judged;
 pub const LEAST_OUTPUT: usize = 65_536;
 
 // How many waiting packets are kept: one more than a report may have. With more than that the report is refused, whatever they are.
-const MOST_WAITING: usize = link::MOST_PACKETS + 1;
+const MOST_WAITING: usize = receive_order::MOST_PACKETS + 1;
 
 // A listing of so many bytes, or the first question that the file fails.
 pub enum Listed {
@@ -32,9 +32,9 @@ pub enum Listed {
 }
 
 impl Listed {
-    // The number of the question that the file fails, or 0.
+    // The number of the question that turned the file down, or 0.
     pub fn number(self) -> u64
-        ensures { λ r. ⌜ r ≡ PassFile.failed self ⌝ }
+        ensures { λ r. ⌜ r ≡ PassFile.answerNumber (PassFile.answer self) ⌝ }
     {
         match self {
             Listed::Listing(_) => 0,
