@@ -1,2 +1,1 @@
 pub mod Bandwidth
-pub mod Constants

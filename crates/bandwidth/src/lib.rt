@@ -45,6 +45,9 @@ impl Bitrate {
 
     pub const MAX_ESTIMATE: Bitrate = Bitrate(10_000_000_000.0);
 
+    // The greatest rate of a probe, and the greatest acknowledged rate.
+    pub const MOST: Bitrate = Bitrate(1e14);
+
     pub fn bps(bps: u64) -> Self
         ensures { λ r. ⌜ r ≡ B.bps bps ⌝ }
     {
@@ -61,6 +64,13 @@ impl Bitrate {
         ensures { λ r. ⌜ r ≡ B.clamp self min max ⌝ }
     {
         Bitrate(float::clamp(self.0, min.0, max.0))
+    }
+
+    // Whether it is from min to max.
+    pub fn within(self, min: Bitrate, max: Bitrate) -> bool
+        ensures { λ r. ⌜ r ≡ B.within self min max ⌝ }
+    {
+        float::within(min.0, max.0, self.0)
     }
 
     pub fn mul(self, factor: f64) -> Self
@@ -90,6 +100,9 @@ impl OptionBitrate {
 
 impl DataSize {
     pub const ZERO: DataSize = DataSize(0);
+
+    // The greatest byte sum of a window.
+    pub const MOST: DataSize = DataSize(2_147_483_647);
 
     pub fn bytes(bytes: i64) -> Self
         ensures { λ r. ⌜ r ≡ B.bytes bytes ⌝ }

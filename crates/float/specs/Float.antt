@@ -1,7 +1,7 @@
 -- Document 01's minimum, maximum, clamp and ceiling, and the magnitude: Rust's `f64::min`, `max`, `clamp`, `ceil` and `abs`, for every input.
 use Prim.Native.Nat.{ℕ, _+_, _-_, _*_, _/_}
-use mathlib.Core.Bool.{Bool, true, false, cond}
-use lib.Ieee.{Float, nan, inf, fin, binary64, up, down, isNan, lt, round}
+use mathlib.Core.Bool.{Bool, true, false, _&&_, cond}
+use lib.Ieee.{Float, nan, inf, fin, binary64, up, down, isNan, lt, le, round}
 use Rattle.float_order.specs.Interval.{floats}
 
 -- the other operand where one is a NaN; of two equal numbers the first, so of two zeros of unlike sign too
@@ -20,6 +20,10 @@ lowered x hi = cond (lt hi x) hi x
 
 unfoldable pub clamp : Float → Float → Float → Float
 clamp x lo hi = lowered (raised x lo) hi
+
+-- from lo to hi; no NaN is
+abbrev pub within : Float → Float → Float → Bool
+within lo hi x = le lo x && le x hi
 
 -- the sign dropped, of a zero too
 unfoldable pub abs : Float → Float

@@ -1,7 +1,7 @@
-// Rust's `f64::min`, `max`, `clamp`, `abs` and `ceil`, for every input.
+// Rust's `f64::min`, `max`, `clamp`, `abs` and `ceil`, and whether a float is in a range, for every input.
 ghost use mathlib.Core.Path.{_≡_};
 ghost use lib.Ieee.{toUnsigned};
-ghost use Rattle.float.specs.Float.{min, max, clamp, abs, ceil};
+ghost use Rattle.float.specs.Float.{min, max, clamp, within, abs, ceil};
 
 // The smaller of the two; where one is a NaN the other; where they are equal the first.
 pub fn min(a: f64, b: f64) -> f64
@@ -32,6 +32,13 @@ pub fn clamp(x: f64, lo: f64, hi: f64) -> f64
     } else {
         if x > hi { hi } else { x }
     }
+}
+
+// Whether x is from lo to hi; a NaN is not.
+pub fn within(lo: f64, hi: f64, x: f64) -> bool
+    ensures { λ r. ⌜ r ≡ within lo hi x ⌝ }
+{
+    (lo <= x) & (x <= hi)
 }
 
 // x without its sign.

@@ -3,6 +3,8 @@
 ghost use mathlib.Core.Path.{_≡_};
 ghost use mathlib.Core.Bool.{true};
 ghost use Rattle.acked_bitrate_estimator.specs.Known.{estimator};
+ghost use Rattle.questions.specs.Questions.{number, report-of};
+ghost use Rattle.link_state.specs.State.{inRange};
 ghost use Rattle.link.specs.Link as Calls;
 use acked_bitrate_estimator::AckedBitrateEstimator;
 use acked_bitrate_estimator::Known;
@@ -13,6 +15,8 @@ use bandwidth::DataSize;
 use bandwidth::OptionBitrate;
 use control::DelayController;
 use link_state::Link;
+use questions::OptionRefusal;
+use questions::Refusal;
 
 // What an accepted call returns beside the link.
 pub struct Estimate {
@@ -23,13 +27,7 @@ pub struct Estimate {
 
 pub enum Answer {
     Accepted(Estimate),
-    OutOfRange,
-    BadLists,
-    BadInstant,
-    BadSize,
-    BadMoment,
-    BadProbe,
-    TooManyBytes,
+    Refused(Refusal),
 }
 
 impl Answer {
@@ -39,39 +37,7 @@ impl Answer {
     {
         match self {
             Answer::Accepted(_) => 0,
-            Answer::OutOfRange => 1,
-            Answer::BadLists => 4,
-            Answer::BadInstant => 5,
-            Answer::BadSize => 6,
-            Answer::BadMoment => 7,
-            Answer::BadProbe => 8,
-            Answer::TooManyBytes => 9,
-        }
-    }
-}
-
-// What questions 4 to 8 say of a report, whatever the link.
-pub enum ReportForm {
-    Good,
-    BadLists,
-    BadInstant,
-    BadSize,
-    BadMoment,
-    BadProbe,
-}
-
-impl ReportForm {
-    // The number of the first question that is answered with no, or 0.
-    pub fn number(self) -> u64
-        ensures { λ r. ⌜ r ≡ Calls.formNumber self ⌝ }
-    {
-        match self {
-            ReportForm::Good => 0,
-            ReportForm::BadLists => 4,
-            ReportForm::BadInstant => 5,
-            ReportForm::BadSize => 6,
-            ReportForm::BadMoment => 7,
-            ReportForm::BadProbe => 8,
+            Answer::Refused(refusal) => refusal.number(),
         }
     }
 }
@@ -90,24 +56,29 @@ pub struct Opening {
 
 pub enum Opened {
     Accepted(Opening),
-    BadStartBitrate,
-    BadWindow,
+    Refused(Refusal),
 }
 
-const MOST_INSTANT: u64 = 1_000_000_000_000_000_000;
-
-const MOST_BYTES: DataSize = DataSize(2_147_483_647);
+impl Opened {
+    // The number of the question that turned the opening down, or 0.
+    pub fn number(self) -> u64
+        ensures { λ r. ⌜ r ≡ Calls.startedNumber (Calls.started self) ⌝ }
+    {
+        match self {
+            Opened::Accepted(_) => 0,
+            Opened::Refused(refusal) => refusal.number(),
+        }
+    }
+}
 
 impl Opening {
     // Windows are ns.
     pub fn judge(start_bitrate: Bitrate, initial_window: u64, window: u64) -> Opened
         ensures { λ r. ⌜ Calls.started r ≡ Calls.opening «start_bitrate» «initial_window» window ⌝ }
     {
-        if !start_in(start_bitrate) {
-            return Opened::BadStartBitrate;
-        }
-        if !windows_in(initial_window, window) {
-            return Opened::BadWindow;
+        let judged = questions::opening(start_bitrate, initial_window, window);
+        if let OptionRefusal::Some(refusal) = judged {
+            return Opened::Refused(refusal);
         }
         Opened::Accepted(Opening {
             start_bitrate,
@@ -126,115 +97,11 @@ impl Opening {
     }
 }
 
-// ---- the questions
-fn start_in(start_bitrate: Bitrate) -> bool
-    ensures { λ r. ⌜ r ≡ Calls.startIn («start_bitrate» .0) ⌝ }
-{
-    let start = start_bitrate.as_f64();
-    (40_000.0 <= start) & (start <= 10_000_000_000.0)
-}
-
-fn windows_in(initial_window: u64, window: u64) -> bool
-    ensures { λ r. ⌜ r ≡ Calls.windowsIn «initial_window» window ⌝ }
-{
-    link_state::window_in(initial_window) & link_state::window_in(window)
-}
-
-fn lists_in(
-    sequences: &[u64],
-    sizes: &[u64],
-    sends: &[u64],
-    remotes: &[u64],
-    receives: &[u64],
-) -> bool
-    ensures { λ r. ⌜ r ≡ Calls.listsIn (now (sequences .entry)) (now (sizes .entry)) (now (sends .entry)) (now (remotes .entry)) (now (receives .entry)) ⌝ }
-{
-    let n = sequences.len();
-    (sizes.len() == n)
-        & (sends.len() == n)
-        & (remotes.len() == n)
-        & (receives.len() == n)
-        & (n <= receive_order::MOST_PACKETS)
-}
-
-fn all_at_most(xs: &[u64], most: u64) -> bool
-    ensures { λ r. ⌜ r ≡ Calls.allAtMost most (now (xs .entry)) ⌝ }
-{
-    let mut yes = true;
-    let mut i = 0;
-    while i < xs.len() {
-        yes = yes & (xs[i] <= most);
-        i += 1;
-    }
-    yes
-}
-
-fn all_at_least(xs: &[u64], least: u64) -> bool
-    ensures { λ r. ⌜ r ≡ Calls.allAtLeast least (now (xs .entry)) ⌝ }
-{
-    let mut yes = true;
-    let mut i = 0;
-    while i < xs.len() {
-        yes = yes & (least <= xs[i]);
-        i += 1;
-    }
-    yes
-}
-
-fn instants_in(sends: &[u64], remotes: &[u64], receives: &[u64]) -> bool
-    ensures { λ r. ⌜ r ≡ Calls.instantsIn (now (sends .entry)) (now (remotes .entry)) (now (receives .entry)) ⌝ }
-{
-    all_at_most(sends, MOST_INSTANT)
-        & all_at_most(remotes, MOST_INSTANT)
-        & all_at_most(receives, MOST_INSTANT)
-}
-
-pub fn moment_in(now: u64) -> bool
-    ensures { λ r. ⌜ r ≡ Calls.momentIn now ⌝ }
-{
-    (now <= MOST_INSTANT) & (now % 1_000_000 == 0)
-}
-
-fn probe_in(probe: OptionBitrate) -> bool
-    ensures { λ r. ⌜ r ≡ Calls.probeIn probe ⌝ }
-{
-    match probe {
-        OptionBitrate::None => true,
-        OptionBitrate::Some(rate) => {
-            let p = rate.as_f64();
-            (0.0 <= p) & (p <= 1e14)
-        }
-    }
-}
-
-// ---- the calls
-fn refused(answer: Answer, link: Link) -> Called
-    ensures { λ r. ⌜ Calls.outcome r ≡ Calls.answered answer link ⌝ }
-{
-    Called { answer, link }
-}
-
-fn accepted(link: Link) -> Called
-    ensures { λ r. ⌜ Calls.outcome r ≡ Calls.acceptedWith link ⌝ }
-{
-    let control = link.control;
-    let bitrate = control.last_estimate();
-    let hypothesis = control.hypothesis();
-    let estimate = Estimate {
-        bitrate,
-        hypothesis,
-        next_timeout: control.poll_timeout(),
-    };
-    Called {
-        answer: Answer::Accepted(estimate),
-        link,
-    }
-}
-
+// ---- a report's packets to the acknowledged rate
 // The acknowledged-rate estimator after a report's packets, and whether its byte sum stayed in its limit.
-pub struct Acknowledged {
-    pub acked: AckedBitrateEstimator,
-    pub sums_in: bool,
+struct Acknowledged {
+    acked: AckedBitrateEstimator,
+    sums_in: bool,
 }
 
 fn data_size(n: u64) -> DataSize
@@ -261,7 +128,7 @@ fn acknowledge_known(known: Known, remotes: &[u64], sizes: &[u64]) -> Acknowledg
         }
         known = known.update(remotes[i], data_size(sizes[i]));
         let sum = known.sum;
-        sums_in = sums_in & !MOST_BYTES.lt(sum);
+        sums_in = sums_in & questions::bytes_in(sum);
         i += 1;
     }
     let acked = known.estimator();
@@ -269,7 +136,7 @@ fn acknowledge_known(known: Known, remotes: &[u64], sizes: &[u64]) -> Acknowledg
 }
 
 // Question 9 and the estimator that it asks of, for packets in the order of receipt.
-pub fn acknowledge(acked: AckedBitrateEstimator, remotes: &[u64], sizes: &[u64]) -> Acknowledged
+fn acknowledge(acked: AckedBitrateEstimator, remotes: &[u64], sizes: &[u64]) -> Acknowledged
     ensures { λ r. ⌜ (r .acked ≡ Calls.acknowledge acked (now (remotes .entry)) (now (sizes .entry)))
         × (r .«sums_in» ≡ Calls.sumsIn acked (now (remotes .entry)) (now (sizes .entry))) ⌝ }
 {
@@ -291,15 +158,91 @@ pub fn acknowledge(acked: AckedBitrateEstimator, remotes: &[u64], sizes: &[u64])
         }
         acked = acked.update(remotes[i], data_size(sizes[i]));
         let sum = acked.sum;
-        sums_in = sums_in & !MOST_BYTES.lt(sum);
+        sums_in = sums_in & questions::bytes_in(sum);
         i += 1;
     }
     Acknowledged { acked, sums_in }
 }
 
-// A report whose packets stand in the order of receipt, from question 9 on.
-fn process(
+// ---- report
+// What questions 4 to 9 say of a report, and the acknowledged-rate estimator after it, which a no leaves as it was.
+pub struct Judged {
+    pub refusal: OptionRefusal,
+    pub acked: AckedBitrateEstimator,
+}
+
+// Questions 4 to 9 of a report whose packets stand in the order of receipt.
+pub fn judge_report(
+    acked: AckedBitrateEstimator,
+    sequences: &[u64],
+    sizes: &[u64],
+    sends: &[u64],
+    remotes: &[u64],
+    receives: &[u64],
+    probe: OptionBitrate,
+    moment: u64,
+) -> Judged
+    ensures { λ r. ⌜ Calls.judged r ≡ Calls.judgeReport acked (report-of (now (sequences .entry)) (now (sizes .entry)) (now (sends .entry)) (now (remotes .entry)) (now (receives .entry)) probe moment) ⌝ }
+{
+    let refusal = questions::report(
+        sequences,
+        sizes,
+        sends,
+        remotes,
+        receives,
+        probe,
+        moment,
+    );
+    if let OptionRefusal::Some(question) = refusal {
+        return Judged {
+            refusal: OptionRefusal::Some(question),
+            acked,
+        };
+    }
+    let done = acknowledge(acked, remotes, sizes);
+    if done.sums_in {
+        let acked = done.acked;
+        return Judged {
+            refusal: OptionRefusal::None,
+            acked,
+        };
+    }
+    Judged {
+        refusal: OptionRefusal::Some(Refusal::TooManyBytes),
+        acked,
+    }
+}
+
+fn refused(refusal: Refusal, link: Link) -> Called
+    ensures { λ r. ⌜ Calls.outcome r ≡ Calls.refusedBy (number refusal) link ⌝ }
+{
+    Called {
+        answer: Answer::Refused(refusal),
+        link,
+    }
+}
+
+fn accepted(link: Link) -> Called
+    ensures { λ r. ⌜ Calls.outcome r ≡ Calls.acceptedWith link ⌝ }
+{
+    let control = link.control;
+    let bitrate = control.last_estimate();
+    let hypothesis = control.hypothesis();
+    let estimate = Estimate {
+        bitrate,
+        hypothesis,
+        next_timeout: control.poll_timeout(),
+    };
+    Called {
+        answer: Answer::Accepted(estimate),
+        link,
+    }
+}
+
+// A report to a link in range, its packets in the order of receipt.
+fn report_in_order(
     link: Link,
+    sequences: &[u64],
     sizes: &[u64],
     sends: &[u64],
     remotes: &[u64],
@@ -307,15 +250,25 @@ fn process(
     probe: OptionBitrate,
     moment: u64,
 ) -> Called
-    ensures { λ r. ⌜ Calls.outcome r ≡ Calls.processed link (now (sizes .entry)) (now (sends .entry)) (now (remotes .entry)) (now (receives .entry)) probe moment ⌝ }
+    ensures { λ r. ⌜ Calls.outcome r ≡ Calls.reportInOrder link (report-of (now (sequences .entry)) (now (sizes .entry)) (now (sends .entry)) (now (remotes .entry)) (now (receives .entry)) probe moment) ⌝ }
 {
     let acked = link.acked;
     let control = link.control;
-    let done = acknowledge(acked, remotes, sizes);
-    if !done.sums_in {
-        return refused(Answer::TooManyBytes, link);
+    let judged = judge_report(
+        acked,
+        sequences,
+        sizes,
+        sends,
+        remotes,
+        receives,
+        probe,
+        moment,
+    );
+    let refusal = judged.refusal;
+    if let OptionRefusal::Some(question) = refusal {
+        return refused(question, link);
     }
-    let acked = done.acked;
+    let acked = judged.acked;
     let control = control.update(
         sends,
         remotes,
@@ -328,8 +281,8 @@ fn process(
     accepted(updated)
 }
 
-// The same of packets in any order: they are put in order first, unless they are.
-fn process_unsorted(
+// A report to a link in range, its packets in any order.
+fn report_unsorted(
     link: Link,
     sequences: &[u64],
     sizes: &[u64],
@@ -339,11 +292,11 @@ fn process_unsorted(
     probe: OptionBitrate,
     moment: u64,
 ) -> Called
-    requires { ⌜ Calls.listsIn (now sequences) (now sizes) (now sends) (now remotes) (now receives) ≡ true ⌝ }
-    ensures { λ r. ⌜ Calls.outcome r ≡ Calls.processedUnsorted link (Calls.report-of (now (sequences .entry)) (now (sizes .entry)) (now (sends .entry)) (now (remotes .entry)) (now (receives .entry)) probe moment) ⌝ }
+    requires { ⌜ inRange link ≡ true ⌝ }
+    ensures { λ r. ⌜ Calls.outcome r ≡ Calls.report link (report-of (now (sequences .entry)) (now (sizes .entry)) (now (sends .entry)) (now (remotes .entry)) (now (receives .entry)) probe moment) ⌝ }
 {
-    if receive_order::is_sorted(remotes, sends, sequences) {
-        return process(link, sizes, sends, remotes, receives, probe, moment);
+    if !questions::lists_in(sequences, sizes, sends, remotes, receives) {
+        return refused(Refusal::BadLists, link);
     }
     let n = remotes.len();
     let order = receive_order::order_by_receive_time(remotes, sends, sequences);
@@ -351,8 +304,9 @@ fn process_unsorted(
     let sends = receive_order::gather(sends, &order, n);
     let receives = receive_order::gather(receives, &order, n);
     let remotes = receive_order::gather(remotes, &order, n);
-    process(
+    report_in_order(
         link,
+        sequences,
         &sizes[0..n],
         &sends[0..n],
         &remotes[0..n],
@@ -360,68 +314,6 @@ fn process_unsorted(
         probe,
         moment,
     )
-}
-
-// Questions 4 to 8.
-pub fn report_form(
-    sequences: &[u64],
-    sizes: &[u64],
-    sends: &[u64],
-    remotes: &[u64],
-    receives: &[u64],
-    probe: OptionBitrate,
-    moment: u64,
-) -> ReportForm
-    ensures { λ r. ⌜ Calls.formNumber r ≡ Calls.firstNo (Calls.formQuestions (Calls.report-of (now (sequences .entry)) (now (sizes .entry)) (now (sends .entry)) (now (remotes .entry)) (now (receives .entry)) probe moment)) ⌝ }
-{
-    if !lists_in(sequences, sizes, sends, remotes, receives) {
-        return ReportForm::BadLists;
-    }
-    if !instants_in(sends, remotes, receives) {
-        return ReportForm::BadInstant;
-    }
-    if !all_at_least(sizes, 1) {
-        return ReportForm::BadSize;
-    }
-    if !moment_in(moment) {
-        return ReportForm::BadMoment;
-    }
-    if !probe_in(probe) {
-        return ReportForm::BadProbe;
-    }
-    ReportForm::Good
-}
-
-// A report to a link that is in range, as every link that a run reaches is (crates/link_runs): question 1 is not put.
-pub fn report_in_range(
-    link: Link,
-    sequences: &[u64],
-    sizes: &[u64],
-    sends: &[u64],
-    remotes: &[u64],
-    receives: &[u64],
-    probe: OptionBitrate,
-    moment: u64,
-) -> Called
-    ensures { λ r. ⌜ Calls.outcome r ≡ Calls.reportInRange link (Calls.report-of (now (sequences .entry)) (now (sizes .entry)) (now (sends .entry)) (now (remotes .entry)) (now (receives .entry)) probe moment) ⌝ }
-{
-    match report_form(sequences, sizes, sends, remotes, receives, probe, moment) {
-        ReportForm::Good => process_unsorted(
-            link,
-            sequences,
-            sizes,
-            sends,
-            remotes,
-            receives,
-            probe,
-            moment,
-        ),
-        ReportForm::BadLists => refused(Answer::BadLists, link),
-        ReportForm::BadInstant => refused(Answer::BadInstant, link),
-        ReportForm::BadSize => refused(Answer::BadSize, link),
-        ReportForm::BadMoment => refused(Answer::BadMoment, link),
-        ReportForm::BadProbe => refused(Answer::BadProbe, link),
-    }
 }
 
 // A report: its packets as five lists, a probe's result or none, and the moment.
@@ -435,12 +327,24 @@ pub fn report(
     probe: OptionBitrate,
     moment: u64,
 ) -> Called
-    ensures { λ r. ⌜ Calls.outcome r ≡ Calls.report link (Calls.report-of (now (sequences .entry)) (now (sizes .entry)) (now (sends .entry)) (now (remotes .entry)) (now (receives .entry)) probe moment) ⌝ }
+    ensures { λ r. ⌜ Calls.outcome r ≡ Calls.report link (report-of (now (sequences .entry)) (now (sizes .entry)) (now (sends .entry)) (now (remotes .entry)) (now (receives .entry)) probe moment) ⌝ }
 {
     if !link.in_range() {
-        return refused(Answer::OutOfRange, link);
+        return refused(Refusal::OutOfRange, link);
     }
-    report_in_range(
+    if receive_order::is_sorted(remotes, sends, sequences) {
+        return report_in_order(
+            link,
+            sequences,
+            sizes,
+            sends,
+            remotes,
+            receives,
+            probe,
+            moment,
+        );
+    }
+    report_unsorted(
         link,
         sequences,
         sizes,
@@ -452,25 +356,20 @@ pub fn report(
     )
 }
 
-// A timeout of a link that is in range: question 1 is not put.
-pub fn timeout_in_range(link: Link, now: u64) -> Called
-    ensures { λ r. ⌜ Calls.outcome r ≡ Calls.timeoutInRange link now ⌝ }
+// ---- timeout
+pub fn timeout(link: Link, now: u64) -> Called
+    ensures { λ r. ⌜ Calls.outcome r ≡ Calls.timeout link now ⌝ }
 {
-    if !moment_in(now) {
-        return refused(Answer::BadMoment, link);
+    if !link.in_range() {
+        return refused(Refusal::OutOfRange, link);
+    }
+    let judged = questions::timeout(now);
+    if let OptionRefusal::Some(refusal) = judged {
+        return refused(refusal, link);
     }
     let acked = link.acked;
     let control = link.control;
     let mut timed_out = link;
     timed_out.control = control.handle_timeout(acked.current_estimate(), now);
     accepted(timed_out)
-}
-
-pub fn timeout(link: Link, now: u64) -> Called
-    ensures { λ r. ⌜ Calls.outcome r ≡ Calls.timeout link now ⌝ }
-{
-    if !link.in_range() {
-        return refused(Answer::OutOfRange, link);
-    }
-    timeout_in_range(link, now)
 }

@@ -55,6 +55,7 @@ use Rattle.rate_control.specs.Laws as RateControl
 use Rattle.rate_control.specs.Laws.{InstantAtMost, DurationAtMost}
 use Rattle.rate_control.specs.declared.RateControl.{RateControl as RateControlState}
 use Rattle.control.specs.Control.{minEstimate, maxEstimate, rttSmoothingFactor}
+use Rattle.questions.specs.Questions.{windowIn}
 use Rattle.link_state.specs.State.{
   absent,
   ackedIn,
@@ -91,7 +92,6 @@ use Rattle.link_state.specs.State.{
   sumIn,
   trendlineIn,
   wholeGroup,
-  windowIn,
   within,
 }
 use Rattle.link_state.specs.declared.Link.{Link}

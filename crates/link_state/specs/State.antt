@@ -1,5 +1,5 @@
 -- Question 1 of document 01: is the lent state in range? A line for each of its clauses, told part by part. Instants and durations are ns.
-use Prim.Native.Nat.{ℕ, _%_, _^_, _+_, _*_}
+use Prim.Native.Nat.{ℕ, _^_, _+_, _*_}
 use mathlib.Core.Bool.{Bool, true, false, not, _&&_, _||_}
 use mathlib.Core.List.{List, [], _∷_}
 use lib.Dec.{leb, eqb}
@@ -36,6 +36,7 @@ use Rattle.trendline.specs.declared.OptionOveruse.the-variants as Over
 use Rattle.trendline.specs.declared.TrendlineEstimator.{TrendlineEstimator}
 use Rattle.rate_control.specs.RateControl.{observedBitRateSmoothingFactor}
 use Rattle.rate_control.specs.declared.RateControl.{RateControl}
+use Rattle.questions.specs.Questions.{bytesIn, windowIn}
 use Rattle.control.specs.Control.{minEstimate, maxEstimate, rttSmoothingFactor}
 use Rattle.control.specs.declared.DelayController.{DelayController}
 use Rattle.link_state.specs.declared.Link.{Link}
@@ -47,9 +48,6 @@ mostNs = 10 ^ 18 + 10 ^ 9
 
 abbrev pub mostOveruse : ℕ
 mostOveruse = 2 * 10 ^ 18
-
-abbrev pub mostBytes : DataSize
-mostBytes = B.bytes (pos 2147483647)
 
 abbrev pub noBytes : DataSize
 noBytes = B.bytes (pos 0)
@@ -104,13 +102,9 @@ abbrev pub durationIn : OptionDuration → Bool
 durationIn Duration.None = true
 durationIn (Duration.Some d) = leb d mostNs
 
--- windows as in question 3: whole ms from 1 to 10,000
-unfoldable pub windowIn : ℕ → Bool
-windowIn w = eqb (w % 1000000) 0 && leb 1000000 w && leb w 10000000000
-
 -- byte sum as in question 9, and 0 only with an elapsed window of 0
 unfoldable pub sumIn : DataSize → ℕ → Bool
-sumIn sum elapsed = not (B.less sum noBytes) && not (B.less mostBytes sum) && (B.less noBytes sum || eqb elapsed 0)
+sumIn sum elapsed = not (B.less sum noBytes) && bytesIn sum && (B.less noBytes sum || eqb elapsed 0)
 
 abbrev pub averageWithin : Float → OptionF64 → Bool
 averageWithin most F64.None = true
@@ -124,7 +118,7 @@ averageIn m factor most =
     && within (lit 0) most30 (m .variance)
     && Ieee.eq (m .std) (sqrt (m .variance))
 
--- ---- the acknowledged rate: absent or from 0.8 to 10^14
+-- ---- the acknowledged rate: windows as in question 3; absent or from 0.8 to 10^14
 abbrev pub ackedRateIn : OptionBitrate → Bool
 ackedRateIn Rate.None = true
 ackedRateIn (Rate.Some r) = within leastAcked mostRate (r .0)

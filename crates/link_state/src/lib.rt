@@ -87,20 +87,12 @@ fn duration_in(d: OptionDuration) -> bool
     }
 }
 
-// Question 3's test of a window, in ns.
-pub fn window_in(window: u64) -> bool
-    ensures { λ r. ⌜ r ≡ State.windowIn window ⌝ }
-{
-    (window % 1_000_000 == 0) & (1_000_000 <= window) & (window <= 10_000_000_000)
-}
-
 fn sum_in(sum: DataSize, elapsed: u64) -> bool
     ensures { λ r. ⌜ r ≡ State.sumIn sum elapsed ⌝ }
 {
     let below = sum.lt(DataSize::ZERO);
-    let above = DataSize(2_147_483_647).lt(sum);
     let some = DataSize::ZERO.lt(sum);
-    !below & !above & (some | (elapsed == 0))
+    !below & questions::bytes_in(sum) & (some | (elapsed == 0))
 }
 
 fn average_within(most: f64, average: OptionF64) -> bool
@@ -138,7 +130,7 @@ fn acked_in(a: AckedBitrateEstimator) -> bool
     let estimate = a.estimate;
     let sum = a.sum;
     let last_update = a.last_update;
-    let windows = window_in(a.initial_window) & window_in(a.window);
+    let windows = questions::window_in(a.initial_window) & questions::window_in(a.window);
     let rate = acked_rate_in(estimate);
     let variance = within(0.0, MOST_30, a.estimate_var);
     let bytes = sum_in(sum, a.current_window);

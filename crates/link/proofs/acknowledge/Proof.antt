@@ -27,7 +27,7 @@ returns-2 c =
     left-rest (c .before .before .before .before .before .before .before .before .before .before .before .loop .inv .1) (known-estimator (sym (c .before .before .before .before .before .before .before .before .known .ensures) ∙ c .before .before .before .before .before .before .taken .given .1)) (rest .0) (rest .1)
 
 loop-again : tie.Need-loop-again Inv-loop μ-loop
-loop-again c = (omega arith, left-turn (c .before .before .before .before .before .before .before .before .before .before .before .loop .inv .1) (omega arith) (omega arith) (c .before .before .before .data-size .ensures) (c .before .before .update .ensures) (c .lt .ensures))
+loop-again c = (omega arith, left-turn (c .before .before .before .before .before .before .before .before .before .before .before .loop .inv .1) (omega arith) (omega arith) (c .before .before .before .data-size .ensures) (c .before .before .update .ensures) (c .bytes-in .ensures))
 
 returns-3 : tie.Need-returns-3 Inv-loop μ-loop
 returns-3 c = remotes-end (c .before .loop .inv .1) (c .loop-test .left)

@@ -22,7 +22,7 @@ returns : tie.Need-returns Inv-loop μ-loop
 returns c = rw (c .estimator .ensures) (sizes-end (c .before .before .before .loop .inv .1) (c .before .if1 .taken))
 
 loop-again : tie.Need-loop-again Inv-loop μ-loop
-loop-again c = (omega arith, left-turn (c .before .before .before .before .before .before .before .before .loop .inv .1) (omega arith) (omega arith) (c .before .before .before .data-size .ensures) (c .before .before .update .ensures) (c .lt .ensures))
+loop-again c = (omega arith, left-turn (c .before .before .before .before .before .before .before .before .loop .inv .1) (omega arith) (omega arith) (c .before .before .before .data-size .ensures) (c .before .before .update .ensures) (c .bytes-in .ensures))
 
 returns-2 : tie.Need-returns-2 Inv-loop μ-loop
 returns-2 c = rw (c .estimator2 .ensures) (remotes-end (c .before .before .loop .inv .1) (c .before .loop-test .left))
