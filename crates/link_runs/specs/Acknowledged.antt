@@ -2,17 +2,17 @@
 use Prim.Native.Nat.{ℕ, _^_, _-_, _≤_, min}
 use native.Mathlib.Omega.{arith}
 use mathlib.Core.Path.{_≡_}
-use mathlib.Core.Bool.{true, not}
+use mathlib.Core.Bool.{true}
 use mathlib.Core.List.{List, [], _∷_}
 use lib.Signed.{ltZ-no}
-use Rattle.bandwidth.specs.Bandwidth as B
+use Rattle.bandwidth.specs.Bandwidth.{mostBytes}
 use Rattle.rate_control.specs.Laws.{InstantAtMost}
 use Rattle.acked_bitrate_estimator.specs.AckedBitrateEstimator.{new, update}
 use Rattle.acked_bitrate_estimator.specs.Laws.{Reached, ValidWindow, new-reached, update-reached, update-last}
 use Rattle.acked_bitrate_estimator.specs.declared.AckedBitrateEstimator.{AckedBitrateEstimator}
 use Rattle.receive_order.specs.Lists.{All}
-use Rattle.link_state.specs.State.{mostBytes}
-use Rattle.link.specs.Link.{acknowledge, dataSize, mostInstant, sumsIn}
+use Rattle.questions.specs.Questions.{bytesIn, mostInstant}
+use Rattle.link.specs.Link.{acknowledge, dataSize, sumsIn}
 use Rattle.link_runs.specs.Tests.{both, holds}
 
 pub record GoodAcked (a : AckedBitrateEstimator) : Type 0 where
@@ -22,7 +22,7 @@ pub record GoodAcked (a : AckedBitrateEstimator) : Type 0 where
 pub new-good : (initial window : ℕ) → ValidWindow initial → ValidWindow window → GoodAcked (new initial window)
 new-good initial window i w = record { reached = new-reached initial window i w; last = tt }
 
-update-good : (a : AckedBitrateEstimator) (t n : ℕ) → t ≤ mostInstant → 1 ≤ n → not (B.less mostBytes (update a t (dataSize n) .sum)) ≡ true → GoodAcked a
+update-good : (a : AckedBitrateEstimator) (t n : ℕ) → t ≤ mostInstant → 1 ≤ n → bytesIn (update a t (dataSize n) .sum) ≡ true → GoodAcked a
     → GoodAcked (update a t (dataSize n))
 update-good a t n h l e g =
     record {
@@ -37,5 +37,5 @@ acknowledge-good a [] sizes h k e g = g
 acknowledge-good a (t ∷ remotes) [] h k e g = g
 acknowledge-good a (t ∷ remotes) (n ∷ sizes) h k e g =
     let next = update a t (dataSize n) in
-    let q = both (not (B.less mostBytes (next .sum))) (sumsIn next remotes sizes) e in
+    let q = both (bytesIn (next .sum)) (sumsIn next remotes sizes) e in
     acknowledge-good next remotes sizes (h .1) (k .1) (q .1) (update-good a t n (h .0) (k .0) (q .0) g)

@@ -19,9 +19,10 @@ use Rattle.acked_bitrate_estimator.specs.Laws.{ValidEstimate}
 use Rattle.control.specs.Control as Control
 use Rattle.control.specs.Control.{addAll, begin, getSmoothedRtt, handleTimeout, rateAfter, trendlineHypothesisValid, updateEstimate, wait, withPackets, withRate}
 use Rattle.control.specs.declared.DelayController.{DelayController}
+use Rattle.questions.specs.Questions.{Report, inOrder, ordered}
 use Rattle.link_state.specs.declared.Link.{Link}
 use Rattle.link.specs.Link as L
-use Rattle.link.specs.Link.{Outcome, Reply, Report, acceptedWith, accepted, hypothesis, inOrder, refused, reportQuestions, timedOut, timeoutQuestions, updatedBy}
+use Rattle.link.specs.Link.{Outcome, Reply, acceptedWith, accepted, hypothesis, refused, reportQuestions, timedOut, timeoutQuestions, updated}
 use Rattle.link_runs.specs.Statement.{Call, Demand3, Handed, Steady, call, handed, handedAll, handedOn, run, threshold, unlessRefused, updates}
 use Rattle.link_runs.specs.Statement.Call.{report, timeout}
 use Rattle.link_runs.specs.Statement as Statement
@@ -73,10 +74,10 @@ timeout-rate c acked now = go (trendlineHypothesisValid c now)
     go false = refl
 
 control-after : (l : Link) (k : Call) → call l k .link .control .«rate_control» ≡ after (l .control .«rate_control») (change l k)
-unfolding acceptedWith updatedBy timedOut Control.update updateEstimate withRate withPackets getSmoothedRtt
+unfolding acceptedWith updated timedOut Control.update updateEstimate withRate withPackets getSmoothedRtt
 control-after l (report r) = go (report-answered l r)
   where
-    go : {o : Outcome} → Answered (reportQuestions l r) l (L.updated l r) o → o .link .control .«rate_control» ≡ after (l .control .«rate_control») (reported o r)
+    go : {o : Outcome} → Answered (reportQuestions l r) l (updated l (ordered r)) o → o .link .control .«rate_control» ≡ after (l .control .«rate_control») (reported o r)
     go turnedDown = refl
     go (taken y) = rate-after (r .probe) _ (withPackets (l .control) (addAll (begin (l .control)) (inOrder r (r .sends)) (inOrder r (r .remotes)) (inOrder r (r .receives))) (r .now)) (r .now)
 control-after l (timeout now) = go (timeout-answered l now)
@@ -95,10 +96,10 @@ unless-finite : (r : Reply) (x : Change) → Finite x → Finite (unless r x)
 unless-finite (refused n) x f = tt
 unless-finite (accepted e u t) x f = f
 
-report-finite : (l : Link) (r : Report) {o : Outcome} → Answered (reportQuestions l r) l (L.updated l r) o → Good (o .link) → Finite (reported o r)
+report-finite : (l : Link) (r : Report) {o : Outcome} → Answered (reportQuestions l r) l (updated l (ordered r)) o → Good (o .link) → Finite (reported o r)
 unfolding acceptedWith
 report-finite l r turnedDown g = tt
-report-finite l r (taken y) g = change-finite (r .probe) (L.updated l r .acked .estimate) _ _ (r .now) (good-report l r y .probe-in) (g .acked .reached .estimate)
+report-finite l r (taken y) g = change-finite (r .probe) (updated l (ordered r) .acked .estimate) _ _ (r .now) (good-report l r y .probe-in) (g .acked .reached .estimate)
 
 good-finite : (l : Link) (k : Call) → Good l → Finite (change l k)
 good-finite l (report r) g = report-finite l r (report-answered l r) (call-good l (report r) g)

@@ -18,6 +18,7 @@ use Rattle.average.specs.Laws.{AverageIn}
 use Rattle.average.specs.Laws as Average
 use Rattle.average.specs.declared.OptionF64.{OptionF64}
 use Rattle.average.specs.declared.OptionF64.the-variants as F64
+use Rattle.bandwidth.specs.Bandwidth.{mostRate}
 use Rattle.bandwidth.specs.declared.Bitrate.{Bitrate}
 use Rattle.bandwidth.specs.declared.OptionBitrate.{OptionBitrate}
 use Rattle.bandwidth.specs.declared.OptionBitrate.the-variants as Rate
@@ -34,10 +35,10 @@ use Rattle.control.specs.Control.{addAll, begin, getSmoothedRtt, handleTimeout,
 use Rattle.control.specs.Laws.{KeptRtt, mostRtt, timeout-none, timeout-report, timeout-timeout, update-kept}
 use Rattle.control.specs.declared.DelayController.{DelayController}
 use Rattle.receive_order.specs.Lists.{All}
-use Rattle.link_state.specs.State.{mostRate, windowIn}
+use Rattle.questions.specs.Questions.{Report, allAtMost, firstNo, inOrder, instantsIn, momentIn, mostInstant, ofOpening, ofReport, ofTimeout, ordered, probeIn, windowIn}
+use Rattle.questions.specs.Laws.{lengths}
 use Rattle.link_state.specs.declared.Link.{Link}
-use Rattle.link.specs.Link as L
-use Rattle.link.specs.Link.{Outcome, Question, Report, acceptedWith, acknowledge, allAtMost, firstNo, inOrder, instantsIn, momentIn, mostInstant, new, opened, opening, probeIn, question, reportQuestions, startIn, startedUnless, sumsIn, timedOut, timeoutQuestions, updatedBy, windowsIn}
+use Rattle.link.specs.Link.{Outcome, acceptedWith, acknowledge, new, opened, opening, reportQuestions, startedUnless, sumsIn, timedOut, timeoutQuestions, updated}
 use Rattle.link_runs.specs.Statement.{Call, call, run}
 use Rattle.link_runs.specs.Statement.Call.{report, timeout}
 use Rattle.link_runs.specs.Tests.{both, holds}
@@ -45,7 +46,7 @@ use Rattle.link_runs.specs.Acknowledged as Acknowledged
 use Rattle.link_runs.specs.Acknowledged.{GoodAcked, acknowledge-good}
 use Rattle.link_runs.specs.Packets as Packets
 use Rattle.link_runs.specs.Packets.{GoodPackets, packets-good}
-use Rattle.link_runs.specs.Answered.{AllYes, Answered, all-yes, at-least, at-most, in-order, lengths, report-answered, round-trips, timeout-answered}
+use Rattle.link_runs.specs.Answered.{AllYes, Answered, all-yes, at-least, at-most, in-order, report-answered, round-trips, timeout-answered}
 use Rattle.link_runs.specs.Answered.Answered.{turnedDown, taken}
 
 -- the limits are the estimate's, and its statistics are in their ranges
@@ -76,8 +77,8 @@ probe-finite : (p : OptionBitrate) → probeIn p ≡ true → FiniteIfAny p
 unfolding probeIn
 probe-finite Rate.None e = tt
 probe-finite (Rate.Some p) e =
-    let b = both (le (lit 0) (p .0)) (le (p .0) mostRate) e in
-    let i : In (lit 0) mostRate (p .0) = record { low = holds (b .0); high = holds (b .1) } in
+    let b = both (le (lit 0) (p .0)) (le (p .0) (mostRate .0)) e in
+    let i : In (lit 0) (mostRate .0) (p .0) = record { low = holds (b .0); high = holds (b .1) } in
     in-finite i (unfold floats in tt)
 
 pub rate-finite : {x : Float} → ValidRate x → T (finite x)
@@ -102,35 +103,33 @@ rate-good Rate.None (Rate.Some b) c now f v n k g =
 
 -- ---- a report
 -- packets in the order of receipt, of which each instant and each size is in its limits
-pub record GoodReport (a : AckedBitrateEstimator) (sizes sends remotes receives : List ℕ) (probe : OptionBitrate) (now : ℕ) : Type 0 where
-  pub sizes-in : All (λ n. 1 ≤ n) sizes
-  pub sends-in : All (λ t. t ≤ mostInstant) sends
-  pub remotes-in : All (λ t. t ≤ mostInstant) remotes
-  pub receives-in : All (λ t. t ≤ mostInstant) receives
-  pub sums-in : sumsIn a remotes sizes ≡ true
-  pub probe-in : FiniteIfAny probe
-  pub now-in : now ≤ mostInstant
+pub record GoodReport (a : AckedBitrateEstimator) (r : Report) : Type 0 where
+  pub sizes-in : All (λ n. 1 ≤ n) (r .sizes)
+  pub sends-in : All (λ t. t ≤ mostInstant) (r .sends)
+  pub remotes-in : All (λ t. t ≤ mostInstant) (r .remotes)
+  pub receives-in : All (λ t. t ≤ mostInstant) (r .receives)
+  pub sums-in : sumsIn a (r .remotes) (r .sizes) ≡ true
+  pub probe-in : FiniteIfAny (r .probe)
+  pub now-in : r .now ≤ mostInstant
 
-updated-good : (l : Link) (sizes sends remotes receives : List ℕ) (probe : OptionBitrate) (now : ℕ) → GoodReport (l .acked) sizes sends remotes receives probe now → Good l
-    → Good (updatedBy l sizes sends remotes receives probe now)
-unfolding updatedBy Control.update updateEstimate withRate withPackets saturatingAdd
-updated-good l sizes sends remotes receives probe now r g =
-    let acked = acknowledge-good (l .acked) remotes sizes (r .remotes-in) (r .sizes-in) (r .sums-in) (g .acked) in
-    let observed = acknowledge (l .acked) remotes sizes .estimate in
-    let trips = update-kept (l .control) sends remotes receives observed probe now (round-trips mostInstant sends receives (r .receives-in)) (g .roundTrip) in
-    let measured = withPackets (l .control) (addAll (begin (l .control)) sends remotes receives) now in
+updated-good : (l : Link) (r : Report) → GoodReport (l .acked) r → Good l → Good (updated l r)
+unfolding updated Control.update updateEstimate withRate withPackets saturatingAdd
+updated-good l r h g =
+    let acked = acknowledge-good (l .acked) (r .remotes) (r .sizes) (h .remotes-in) (h .sizes-in) (h .sums-in) (g .acked) in
+    let observed = acknowledge (l .acked) (r .remotes) (r .sizes) .estimate in
+    let trips = update-kept (l .control) (r .sends) (r .remotes) (r .receives) observed (r .probe) (r .now) (round-trips mostInstant (r .sends) (r .receives) (h .receives-in)) (g .roundTrip) in
+    let measured = withPackets (l .control) (addAll (begin (l .control)) (r .sends) (r .remotes) (r .receives)) (r .now) in
     record {
       acked = acked;
-      packets = packets-good (begin (l .control)) sends remotes receives (r .sends-in) (r .remotes-in) (g .packets);
-      rate = rate-good probe observed measured now (r .probe-in) (acked .reached .estimate) (r .now-in) trips (g .rate);
+      packets = packets-good (begin (l .control)) (r .sends) (r .remotes) (r .receives) (h .sends-in) (h .remotes-in) (g .packets);
+      rate = rate-good (r .probe) observed measured (r .now) (h .probe-in) (acked .reached .estimate) (h .now-in) trips (g .rate);
       roundTrip = trips;
-      timeout = omega (arith, r .now-in);
-      report = r .now-in;
+      timeout = omega (arith, h .now-in);
+      report = h .now-in;
     }
 
-pub good-report : (l : Link) (r : Report) → AllYes (reportQuestions l r)
-    → GoodReport (l .acked) (inOrder r (r .sizes)) (inOrder r (r .sends)) (inOrder r (r .remotes)) (inOrder r (r .receives)) (r .probe) (r .now)
-unfolding reportQuestions instantsIn momentIn
+pub good-report : (l : Link) (r : Report) → AllYes (reportQuestions l r) → GoodReport (l .acked) (ordered r)
+unfolding reportQuestions ofReport instantsIn momentIn
 good-report l r y =
     let n = lengths (r .sequences) (r .sizes) (r .sends) (r .remotes) (r .receives) (y .1 .0) in
     let i = both (allAtMost mostInstant (r .sends) && allAtMost mostInstant (r .remotes)) (allAtMost mostInstant (r .receives)) (y .1 .1 .0) in
@@ -170,12 +169,12 @@ timed-out-good l now n g =
 
 -- ---- a call
 pub call-good : (l : Link) (k : Call) → Good l → Good (call l k .link)
-unfolding timeoutQuestions momentIn acceptedWith
+unfolding timeoutQuestions ofTimeout momentIn acceptedWith
 call-good l (report r) g = go (report-answered l r)
   where
-    go : {o : Outcome} → Answered (reportQuestions l r) l (L.updated l r) o → Good (o .link)
+    go : {o : Outcome} → Answered (reportQuestions l r) l (updated l (ordered r)) o → Good (o .link)
     go turnedDown = g
-    go (taken y) = updated-good l (inOrder r (r .sizes)) (inOrder r (r .sends)) (inOrder r (r .remotes)) (inOrder r (r .receives)) (r .probe) (r .now) (good-report l r y) g
+    go (taken y) = updated-good l (ordered r) (good-report l r y) g
 call-good l (timeout now) g = go (timeout-answered l now)
   where
     go : {o : Outcome} → Answered (timeoutQuestions l now) l (timedOut l now) o → Good (o .link)
@@ -194,11 +193,8 @@ window-valid w e =
     let b = both (eqb (w % 1000000) 0) (leb 1000000 w) (a .0) in
     record { whole = eqb-true (w % 1000000) 0 (b .0); least = leb-true 1000000 w (b .1); most = leb-true w 10000000000 (a .1) }
 
-abbrev openingQuestions : Bitrate → ℕ → ℕ → List Question
-openingQuestions start initial window = question 2 (startIn (start .0)) ∷ question 3 (windowsIn initial window) ∷ []
-
-new-good : (start : Bitrate) (initial window : ℕ) → AllYes (openingQuestions start initial window) → Good (new start initial window)
-unfolding startIn windowsIn Control.new
+new-good : (start : Bitrate) (initial window : ℕ) → AllYes (ofOpening start initial window) → Good (new start initial window)
+unfolding ofOpening Control.new
 new-good start initial window y =
     let s = both (le (minEstimate .0) (start .0)) (le (start .0) (maxEstimate .0)) (y .0) in
     let i : In (minEstimate .0) (maxEstimate .0) (start .0) = record { low = holds (s .0); high = holds (s .1) } in
@@ -213,9 +209,9 @@ new-good start initial window y =
     }
 
 pub opening-good : (start : Bitrate) (initial window : ℕ) (l : Link) → opening start initial window ≡ opened l → Good l
-unfolding opening
-opening-good start initial window l e = go (firstNo (openingQuestions start initial window)) refl e
+unfolding opening ofOpening
+opening-good start initial window l e = go (firstNo (ofOpening start initial window)) refl e
   where
-    go : (n : ℕ) → firstNo (openingQuestions start initial window) ≡ n → startedUnless n (new start initial window) ≡ opened l → Good l
-    go zero z e = let s : new start initial window ≡ l = cc in rw s at (new-good start initial window (all-yes (openingQuestions start initial window) (omega arith) z))
+    go : (n : ℕ) → firstNo (ofOpening start initial window) ≡ n → startedUnless n (new start initial window) ≡ opened l → Good l
+    go zero z e = let s : new start initial window ≡ l = cc in rw s at (new-good start initial window (all-yes (ofOpening start initial window) (omega arith) z))
     go (suc n) z e = absurd (let s : _≡_ {A = ℕ} 0 1 = cc in omega arith)

@@ -83,11 +83,11 @@ use Rattle.link_state.specs.State.{
   sumIn,
   trendlineIn,
   wholeGroup,
-  windowIn,
   within,
 }
 use Rattle.link_state.specs.declared.Link.{Link}
-use Rattle.link.specs.Link.{mostInstant, opened, opening}
+use Rattle.questions.specs.Questions.{mostInstant, windowIn}
+use Rattle.link.specs.Link.{opened, opening}
 use Rattle.link_runs.specs.Statement.{Call, run}
 use Rattle.link_runs.specs.Tests.{is-true}
 use Rattle.link_runs.specs.Acknowledged.{GoodAcked}

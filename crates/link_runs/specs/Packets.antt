@@ -47,7 +47,7 @@ use Rattle.control.specs.Control.{addAll, observe}
 use Rattle.control.specs.declared.Packets.{Packets}
 use Rattle.receive_order.specs.Lists.{All}
 use Rattle.link_state.specs.State.{most31}
-use Rattle.link.specs.Link.{mostInstant}
+use Rattle.questions.specs.Questions.{mostInstant}
 use Rattle.link_runs.specs.Overuse.{Anchored, mostSend, begins, lasts}
 
 -- ---- the claims

@@ -18,9 +18,10 @@ use Rattle.bandwidth.specs.declared.BandwidthUsage.{BandwidthUsage}
 use Rattle.bandwidth.specs.declared.BandwidthUsage.the-variants as Usage
 use Rattle.rate_control.specs.Laws.{AtLeastSmallest}
 use Rattle.control.specs.Control.{trendlineHypothesisValid}
+use Rattle.questions.specs.Questions.{Report}
 use Rattle.link_state.specs.declared.Link.{Link}
 use Rattle.link.specs.Link as L
-use Rattle.link.specs.Link.{Report, Reply, Outcome, opening, opened, accepted, refused, estimate, hypothesis}
+use Rattle.link.specs.Link.{Reply, Outcome, opening, opened, accepted, refused, estimate, hypothesis}
 
 -- ---- a run: an accepted opening, then a list of calls, each of which gets the link that the one before handed back
 pub data Call : Type 0 where
