@@ -112,15 +112,6 @@ fn estimate(link: Link) -> u64 {
     float::as_u64(control.last_estimate().as_f64())
 }
 
-fn line(second: u64, bps: u64, refused: u64) {
-    io::print_decimal(STDOUT_FILENO, second);
-    io::write_all(STDOUT_FILENO, b" s: estimate ");
-    io::print_decimal(STDOUT_FILENO, bps);
-    io::write_all(STDOUT_FILENO, b" bps, reports refused so far: ");
-    io::print_decimal(STDOUT_FILENO, refused);
-    io::write_all(STDOUT_FILENO, b"\n");
-}
-
 fn is_shown(number: u64) -> bool {
     (number == 19)
         | (number == 59)
@@ -129,6 +120,19 @@ fn is_shown(number: u64) -> bool {
         | (number == 399)
         | (number == 799)
         | (number == 1199)
+}
+
+// What stands after a report, where it is shown.
+fn show(number: u64, bps: u64, refused: u64) {
+    if !is_shown(number) {
+        return;
+    }
+    io::print_decimal(STDOUT_FILENO, number / 20 + 1);
+    io::write_all(STDOUT_FILENO, b" s: estimate ");
+    io::print_decimal(STDOUT_FILENO, bps);
+    io::write_all(STDOUT_FILENO, b" bps, reports refused so far: ");
+    io::print_decimal(STDOUT_FILENO, refused);
+    io::write_all(STDOUT_FILENO, b"\n");
 }
 
 // The link, and how many reports it refused.
@@ -142,9 +146,7 @@ fn next(number: u64, first_size: u64, state: State) -> State {
     let answer = called.answer;
     let link = called.link;
     let refused = wrapping_add_u64(state.refused, (answer.number() != 0) as u64);
-    if is_shown(number) {
-        line(number / 20 + 1, estimate(link), refused);
-    }
+    show(number, estimate(link), refused);
     State { link, refused }
 }
 
