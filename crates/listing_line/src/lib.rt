@@ -1,4 +1,4 @@
-// Document 01, pass file and program: one line of the listing, written into a lent buffer.
+// Document 01, pass file and program: one line of the listing, or a number alone on a line, written into a lent buffer.
 ghost use mathlib.Core.Path.{_≡_};
 ghost use mathlib.Core.List.{[], _∷_};
 ghost use Prim.Native.Nat.{_+_, _≤_, _<_};
@@ -102,4 +102,19 @@ pub fn put_line(
         return at;
     }
     put_fields(out, at, record, number, letter, bits, next_timeout, a, b, c)
+}
+
+// The same of a number alone on a line.
+pub fn put_number(out: &mut [u8], at: usize, number: u64) -> usize
+    ensures { λ _. ⌜ now (out .exit) ≡ Line.putLine (now (out .entry)) at (Line.numberLine number) ⌝ }
+    ensures { λ r. ⌜ r ≡ Line.placeAfter (now (out .entry)) at (Line.numberLine number) ⌝ }
+{
+    let w = width(number);
+    if out.len() < at {
+        return at;
+    }
+    if out.len() - at <= w {
+        return at;
+    }
+    put_digits(out, at, number, 10, w, 10)
 }
