@@ -3,4 +3,3 @@ pub mod Known
 pub mod Rows
 pub mod Mean
 pub mod Laws
-pub mod Constants

@@ -66,8 +66,11 @@ abbrev pub bytes : ℤ → DataSize
 bytes n = record { 0 = n }
 
 -- the greatest byte sum of a window
+abbrev pub mostSum : ℕ
+mostSum = 2147483647
+
 abbrev pub mostBytes : DataSize
-mostBytes = bytes (pos 2147483647)
+mostBytes = bytes (pos mostSum)
 
 abbrev pub asBytesF64 : DataSize → Float
 asBytesF64 s = ofInt binary64 (s .0)

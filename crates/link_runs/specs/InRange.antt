@@ -16,6 +16,7 @@ use Rattle.float_order.specs.Ops.{zero₊}
 use Rattle.float_order.specs.Range.{In, Within, nat, in-finite, in-ordered, in-wider}
 use Rattle.float_order.specs.Interval.{floats}
 use Rattle.float_order.specs.Gaps.{gap-large}
+use Rattle.bool_laws.specs.Bools.{is-true}
 use Rattle.average.specs.Laws.{AverageIn, std-in}
 use Rattle.average.specs.Laws as Averages
 use Rattle.average.specs.declared.OptionF64.{OptionF64}
@@ -89,7 +90,6 @@ use Rattle.link_state.specs.declared.Link.{Link}
 use Rattle.questions.specs.Questions.{mostInstant, windowIn}
 use Rattle.link.specs.Link.{opened, opening}
 use Rattle.link_runs.specs.Statement.{Call, run}
-use Rattle.link_runs.specs.Tests.{is-true}
 use Rattle.link_runs.specs.Acknowledged.{GoodAcked}
 use Rattle.link_runs.specs.Overuse.{Anchored, mostSend}
 use Rattle.link_runs.specs.Packets.{GoodOveruse, GoodTrendline, SentIfAny, sent}

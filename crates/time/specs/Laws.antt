@@ -12,6 +12,7 @@ use borrow.Author.Tests.{le-leb, lt-leb, leb-true, lt-ltb, le-ltb, ltb-true, ltb
 use Rattle.float_order.specs.Casts.{ofInt-in}
 use Rattle.float_order.specs.Interval.{floats}
 use Rattle.float_order.specs.Range.{In, nat, in-closed, add-in, div-in}
+use Rattle.bool_laws.specs.Bools.{either}
 use Rattle.seconds.specs.Seconds as Seconds
 use Rattle.time.specs.declared.Ordering.the-variants.{Less, Equal, Greater}
 use Rattle.time.specs.declared.Timestamp.{Timestamp}
@@ -22,10 +23,6 @@ use Rattle.time.specs.Time.{limit, positive, negative, exact, limited, l
 use Rattle.time.specs.Time.{placeLimited, place, placeLimitedInstant, placeInstant, order}
 use Rattle.time.specs.Time.{cmp, eq, lt, le, cmpInstant, eqInstant, ltInstant, leInstant}
 use Rattle.time.specs.Time.{neg, difference, addLimited, add, sub, addLimitedDelta, addDelta, subDelta, sinceLimited, since, divLimited, div, secsLimited, asSecsF64}
-
-either : {A : Type 0} (P : A → Type 0) (t : Bool) {x y : A} → (t ≡ true → P x) → (t ≡ false → P y) → P (cond t x y)
-either P true f g = f refl
-either P false f g = g refl
 
 -- ---- the limits: what is limited is within them, and what is within them stays as it is
 pub within-positive : (d : ℕ) → Within (positive d)

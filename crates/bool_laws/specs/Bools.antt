@@ -1,0 +1,37 @@
+-- What tests tell, and facts of what a test chooses.
+use mathlib.Core.Path.{_≡_, refl, subst, sym}
+use mathlib.Core.Bool.{Bool, true, false, _&&_, cond}
+use mathlib.Core.Logic.{_⊎_, inl, inr}
+use lib.Dec.{T}
+
+-- ---- what a test tells
+pub told : (t : Bool) → (t ≡ true) ⊎ (t ≡ false)
+told true = inl refl
+told false = inr refl
+
+pub holds : {t : Bool} → t ≡ true → T t
+holds e = subst T (sym e) tt
+
+pub is-true : (t : Bool) → T t → t ≡ true
+is-true true h = refl
+is-true false h = absurd h
+
+pub both : (s t : Bool) → (s && t) ≡ true → (s ≡ true) × (t ≡ true)
+both true t e = (refl, e)
+both false true e = (e, refl)
+both false false e = (e, e)
+
+-- tests that hold for the same inputs are one
+pub same : (s t : Bool) → (s ≡ true → t ≡ true) → (t ≡ true → s ≡ true) → s ≡ t
+same true t f g = sym (f refl)
+same false true f g = g refl
+same false false f g = refl
+
+-- ---- what it chooses
+pub either : {A : Type 0} (P : A → Type 0) (t : Bool) {x y : A} → (t ≡ true → P x) → (t ≡ false → P y) → P (cond t x y)
+either P true f g = f refl
+either P false f g = g refl
+
+pub chosen : {A : Type 0} (P : A → Type 0) (t : Bool) {x y : A} → P x → P y → P (cond t x y)
+chosen P true p q = p
+chosen P false p q = q
