@@ -8,7 +8,7 @@ use Rattle.bandwidth.specs.declared.OptionBitrate.the-variants as Rate
 use Rattle.bandwidth.specs.declared.BandwidthUsage.{BandwidthUsage}
 use Rattle.time.specs.declared.OptionDuration.{OptionDuration}
 use Rattle.time.specs.Time.{saturatingAdd}
-use Rattle.bool_laws.specs.Bools.{either}
+use Rattle.bool_laws.specs.Bools.{cases}
 use Rattle.recovery.specs.Recovery.{Change, Finite, after}
 use Rattle.recovery.specs.Recovery.Change.{nothing}
 use Rattle.recovery.specs.Runs as Runs
@@ -80,7 +80,7 @@ good-finite : (l : Link) (k : Call) → Good l → Finite (handed l k)
 good-finite l (report r) g = report-finite l r (report-answered l r) (call-good l (report r) g)
 good-finite l (timeout now) g =
     unless-finite (L.timeout l now .reply) _
-    (either Finite (trendlineHypothesisValid (l .control) now)
+    (cases Finite (trendlineHypothesisValid (l .control) now)
     (λ e. change-finite Rate.None (l .acked .estimate) (hypothesis l) (getSmoothedRtt (l .control)) now tt (g .acked .reached .estimate)) (λ e. tt))
 
 keeps : Runs.Keeps machine Good

@@ -25,7 +25,7 @@ use Rattle.bandwidth.specs.declared.OptionBitrate.the-variants as Rate
 use Rattle.time.specs.Time.{saturatingAdd}
 use Rattle.acked_bitrate_estimator.specs.Laws.{ValidEstimate, ValidRate, ValidWindow}
 use Rattle.acked_bitrate_estimator.specs.declared.AckedBitrateEstimator.{AckedBitrateEstimator}
-use Rattle.bool_laws.specs.Bools.{either, both, holds}
+use Rattle.bool_laws.specs.Bools.{cases, both, holds}
 use Rattle.rate_control.specs.RateControl as RateControl
 use Rattle.rate_control.specs.Laws as Rates
 use Rattle.rate_control.specs.Laws.{InstantAtMost, DurationAtMost}
@@ -149,7 +149,7 @@ timeout-rate-good : (c : DelayController) (observed : OptionBitrate) (now : ℕ)
     → GoodRate (handleTimeout c observed now .«rate_control»)
 unfolding handleTimeout updateEstimate withRate
 timeout-rate-good c observed now v n k g =
-    either (λ (d : DelayController). GoodRate (d .«rate_control»)) (trendlineHypothesisValid c now) (λ e. rate-good Rate.None observed c now tt v n k g) (λ e. g)
+    cases (λ (d : DelayController). GoodRate (d .«rate_control»)) (trendlineHypothesisValid c now) (λ e. rate-good Rate.None observed c now tt v n k g) (λ e. g)
 
 timed-out-good : (l : Link) (now : ℕ) → now ≤ mostInstant → Good l → Good (timedOut l now)
 unfolding timedOut saturatingAdd

@@ -10,7 +10,7 @@ use Rattle.time.specs.Time.{limit, negative, positive, difference, addLimited, 
 use Rattle.time.specs.Laws.{limited-within}
 use Rattle.time.specs.declared.TimeDelta.{TimeDelta}
 use Rattle.time.specs.declared.TimeDelta.the-variants.{NegativeInfinity, Negative, Positive, PositiveInfinity}
-use Rattle.bool_laws.specs.Bools.{either}
+use Rattle.bool_laws.specs.Bools.{cases}
 
 -- ---- the claims
 -- the latest send instant of a group: rounding to ms adds half of one at most
@@ -34,7 +34,7 @@ module _ (s s′ : ℕ) (h : s ≤ mostSend) (k : s′ ≤ mostSend) where
   pub begins : Anchored s′ (Time.div (difference s′ s) 2)
   unfolding Time.div divLimited difference
   begins =
-      either (λ d. Anchored s′ (Time.div d 2)) (ltb s′ s)
+      cases (λ d. Anchored s′ (Time.div d 2)) (ltb s′ s)
       (λ e. rw (limited-within (Negative (s - s′)) (omega arith)) (record { anchor = s′ + (s - s′) / 2; most = omega (arith, ltb-true s′ s e); since = refl }))
       (λ e.
       rw (limited-within (Positive (s′ - s)) (omega arith))
@@ -46,7 +46,7 @@ module _ (s s′ : ℕ) (h : s ≤ mostSend) (k : s′ ≤ mostSend) where
   lasts (Negative n) r =
       let i : s + n ≡ r .anchor = r .since in
       let m = r .most in
-      either (λ d. Anchored s′ (Time.add (Negative n) d)) (ltb s′ s)
+      cases (λ d. Anchored s′ (Time.add (Negative n) d)) (ltb s′ s)
       (λ e.
       let l = ltb-true s′ s e in
       rw (limited-within (Negative n) (omega arith), limited-within (Negative (s - s′)) (omega arith), le-leb (n + (s - s′)) limit (omega arith))
@@ -54,17 +54,17 @@ module _ (s s′ : ℕ) (h : s ≤ mostSend) (k : s′ ≤ mostSend) where
       (λ e.
       let l = ltb-false s′ s e in
       rw (limited-within (Negative n) (omega arith), limited-within (Positive (s′ - s)) (omega arith))
-      (either (Anchored s′) (ltb (s′ - s) n)
+      (cases (Anchored s′) (ltb (s′ - s) n)
       (λ f. record { anchor = r .anchor; most = m; since = omega (arith, ltb-true (s′ - s) n f) })
       (λ f. record { anchor = r .anchor; most = m; since = omega (arith, ltb-false (s′ - s) n f) })))
   lasts (Positive n) r =
       let i : s ≡ r .anchor + n = r .since in
       let m = r .most in
-      either (λ d. Anchored s′ (Time.add (Positive n) d)) (ltb s′ s)
+      cases (λ d. Anchored s′ (Time.add (Positive n) d)) (ltb s′ s)
       (λ e.
       let l = ltb-true s′ s e in
       rw (limited-within (Positive n) (omega arith), limited-within (Negative (s - s′)) (omega arith))
-      (either (Anchored s′) (ltb n (s - s′))
+      (cases (Anchored s′) (ltb n (s - s′))
       (λ f. record { anchor = r .anchor; most = m; since = omega (arith, ltb-true n (s - s′) f) })
       (λ f. record { anchor = r .anchor; most = m; since = omega (arith, ltb-false n (s - s′) f) })))
       (λ e.

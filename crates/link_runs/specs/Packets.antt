@@ -30,7 +30,7 @@ use Rattle.arrival_group.specs.declared.InterGroupDelayDelta.{InterGroupDelayDe
 use Rattle.arrival_group.specs.declared.OptionGroup.{OptionGroup}
 use Rattle.arrival_group.specs.declared.OptionGroup.the-variants as Previous
 use Rattle.arrival_group.specs.declared.OptionDelta.the-variants as Delta
-use Rattle.bool_laws.specs.Bools.{either}
+use Rattle.bool_laws.specs.Bools.{cases}
 use Rattle.trendline.specs.Trendline.{smoothingCoef, overUseTimeThreshold, accumulate, add, addToHistory, addDelayObservation, detect, judge, linearFit, modifiedTrend, new, nextOveruse, overusing, place, withTrend}
 use Rattle.trendline.specs.History.{First, place-le, insert-each, insert-full-each}
 use Rattle.trendline.specs.Laws as Trendline
@@ -75,7 +75,7 @@ add-len : (h : History) (time delay : Float) (n : ℕ) → h .len ≤ 20 → h .
 unfolding add
 add-len h time delay n few k =
     rw (le-ltb 20 (h .len) few)
-    (either (λ (x : History). (x .len ≤ min (n + 1) 1000) × (h .len ≡ 20 → x .len ≡ 20)) (ltb (h .len) 20)
+    (cases (λ (x : History). (x .len ≤ min (n + 1) 1000) × (h .len ≡ 20 → x .len ≡ 20)) (ltb (h .len) 20)
     (λ e. let l = ltb-true (h .len) 20 e in (omega arith, λ f. absurd (omega arith))) (λ e. (omega arith, λ f. f)))
 
 add-delays : (P : Float → Type 0) (h : History) (time delay : Float) → SoundHistory (10 ^ 9) h → First P (h .len) (h .delays) → P delay
@@ -85,7 +85,7 @@ add-delays P h time delay k f d =
     let p = place (h .times) (h .len) time in
     let m = place-le (h .times) (h .len) time in
     rw (le-ltb 20 (h .len) (k .few))
-    (either (λ (x : History). First P (x .len) (x .delays)) (ltb (h .len) 20)
+    (cases (λ (x : History). First P (x .len) (x .delays)) (ltb (h .len) 20)
     (λ e.
     let l : h .len < length (h .delays) = rw (k .delays-length) (ltb-true (h .len) 20 e) in
     rw add-one (insert-each (h .delays) p delay (h .len) m P l f d))
@@ -113,9 +113,9 @@ judge-judged d old hypothesis trend sent =
     let modified = modifiedTrend d trend in
     let o = nextOveruse old sent in
     let P : Judgement → Type 0 = λ j. Judged old sent (j .overuse) in
-    either P (Ieee.lt (d .«delay_threshold») modified)
-    (λ e. either P (Time.lt (Time.positive overUseTimeThreshold) (o .«time_overusing») && ltb 1 (o .count) && Ieee.lt (d .«previous_trend») trend) (λ f. cleared) (λ f. counted))
-    (λ e. either P (Ieee.lt modified (neg (d .«delay_threshold»))) (λ f. cleared) (λ f. cleared))
+    cases P (Ieee.lt (d .«delay_threshold») modified)
+    (λ e. cases P (Time.lt (Time.positive overUseTimeThreshold) (o .«time_overusing») && ltb 1 (o .count) && Ieee.lt (d .«previous_trend») trend) (λ f. cleared) (λ f. counted))
+    (λ e. cases P (Ieee.lt modified (neg (d .«delay_threshold»))) (λ f. cleared) (λ f. cleared))
 
 -- what `detect` leaves, and what it makes of an overuse
 record Detected (t : TrendlineEstimator) (sent : TimeDelta) (u : TrendlineEstimator) : Type 0 where
@@ -192,7 +192,7 @@ module _ (g g′ : ArrivalGroup) (h : localSendTime g ≤ mostSend) (k : localSe
   observation-good : (now : ℕ) → now ≤ mostInstant → GoodTrendline (Previous.Some g′) (addDelayObservation t v now)
   unfolding addDelayObservation
   observation-good now l =
-      either (λ (u : TrendlineEstimator). Trendline.Sound (10 ^ 9) u → GoodTrendline (Previous.Some g′) u) (eqb (added .history .len) 20)
+      cases (λ (u : TrendlineEstimator). Trendline.Sound (10 ^ 9) u → GoodTrendline (Previous.Some g′) u) (eqb (added .history .len) 20)
       (λ e.
       let f = eqb-true (added .history .len) 20 e in
       full-good _ f (detect-detected added (linearFit (added .history .times) (added .history .delays) (added .delays .«previous_trend»)) (v .«send_delta») now (omega (arith, added-counted))))
@@ -209,8 +209,8 @@ turned : (a : ArrivalGroupAccumulator) (send remote : ℕ) → Turned a (accumul
 unfolding accumulatePacket accumulateRounded checkedDurationSince delta
 turned a send remote =
     let origin = instantOr (a .«send_time_origin») send in
-    either (λ d. Turned a (accumulateSince d a origin remote)) (ltb send origin) (λ e. left refl refl)
-    (λ e. either (Turned a) (addPacket (a .«current_group») (Group.rounded origin (send - origin)) remote .«need_new_group») (λ f. closed refl refl) (λ f. left refl refl))
+    cases (λ d. Turned a (accumulateSince d a origin remote)) (ltb send origin) (λ e. left refl refl)
+    (λ e. cases (Turned a) (addPacket (a .«current_group») (Group.rounded origin (send - origin)) remote .«need_new_group») (λ f. closed refl refl) (λ f. left refl refl))
 
 abbrev pub SentIfAny : OptionGroup → Type 0
 SentIfAny Previous.None = Unit {0}

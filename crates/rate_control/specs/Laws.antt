@@ -10,14 +10,14 @@ use lib.Ieee.{Float, nan, inf, fin, binary64, le, fits}
 use lib.Ieee.Bits.{ofBits-fits}
 use lib.Ieee.Fits.{mul-fits}
 use lib.Ieee.Scale.{finite}
-use Rattle.float_order.specs.Binary64.{add, mul, lit}
+use Rattle.float_order.specs.Binary64.{add, mul, lit, thousand}
 use Rattle.float_order.specs.Order.{ordered, le-refl, le-trans, le-total, le-ordered-l}
 use Rattle.float_order.specs.Ops.{zero₊, mul-ordered}
 use Rattle.float_order.specs.Exact.{le-add}
 use Rattle.float_order.specs.Range.{In, nat, in-ordered, in-wider, in-closed}
 use Rattle.float_order.specs.Interval.{floats}
 use Rattle.float_order.specs.Plus.{plus, climb}
-use Rattle.bool_laws.specs.Bools.{chosen, either, holds}
+use Rattle.bool_laws.specs.Bools.{chosen, cases, holds}
 use Rattle.float.specs.Float.{min, max, clamp}
 use Rattle.float.specs.MinMax.{min-either, min-le-l, max-floor, clamp-in, le-clamp}
 use Rattle.average.specs.Average as Average
@@ -55,7 +55,6 @@ use Rattle.rate_control.specs.RateControl.{
   resetOver,
   resetUnder,
   setProbeResult,
-  thousand,
   three,
   timeToReduceFurther,
   transition,
@@ -221,7 +220,7 @@ module _ (c : RateControl) (observed : Bitrate) (now : ℕ) (f : T (finite (obse
   pub increase-high : AtLeastSmallest (plus (estimate c) 999) (mul (observed .0) maxEstimateRatio) (nat (10 ^ 10)) (estimate (increase c observed now))
   unfolding increase updateEstimate withEstimate withAverage B.clamp
   increase-high =
-      either (λ (x : RateControl). Reached (estimate x)) (le (increaseLimit (observed .0)) (estimate c))
+      cases (λ (x : RateControl). Reached (estimate x)) (le (increaseLimit (observed .0)) (estimate c))
       (λ e. inr (inl (le-trans (ratio observed) (increaseLimit (observed .0)) (estimate c) limit-high (holds e))))
       (λ e. rw (h .low-is, h .high-is) (reached-clamp _ (min-ordered _ _ (min-ordered (ratio observed) _ (ratio-ordered observed f))) (reached-min _ (raised-high _ _ (h .in-range)))))
 

@@ -12,7 +12,7 @@ use borrow.Author.Tests.{le-leb, lt-leb, leb-true, lt-ltb, le-ltb, ltb-true, ltb
 use Rattle.float_order.specs.Casts.{ofInt-in}
 use Rattle.float_order.specs.Interval.{floats}
 use Rattle.float_order.specs.Range.{In, nat, in-closed, add-in, div-in}
-use Rattle.bool_laws.specs.Bools.{either}
+use Rattle.bool_laws.specs.Bools.{cases}
 use Rattle.seconds.specs.Seconds as Seconds
 use Rattle.time.specs.declared.Ordering.the-variants.{Less, Equal, Greater}
 use Rattle.time.specs.declared.Timestamp.{Timestamp}
@@ -27,11 +27,11 @@ use Rattle.time.specs.Time.{neg, difference, addLimited, add, sub, addLi
 -- ---- the limits: what is limited is within them, and what is within them stays as it is
 pub within-positive : (d : ℕ) → Within (positive d)
 unfolding positive
-within-positive d = either Within (leb d limit) (leb-true d limit) (λ e. tt)
+within-positive d = cases Within (leb d limit) (leb-true d limit) (λ e. tt)
 
 pub within-negative : (d : ℕ) → Within (negative d)
 unfolding negative
-within-negative d = either Within (leb d limit) (leb-true d limit) (λ e. tt)
+within-negative d = cases Within (leb d limit) (leb-true d limit) (λ e. tt)
 
 pub within-limited : (a : TimeDelta) → Within (limited a)
 unfolding limited
@@ -55,7 +55,7 @@ limited-limited a = limited-within (limited a) (within-limited a)
 
 pub within-exact : (t : ℕ) → WithinInstant (exact t)
 unfolding exact
-within-exact t = either WithinInstant (leb t limit) (leb-true t limit) (λ e. tt)
+within-exact t = cases WithinInstant (leb t limit) (leb-true t limit) (λ e. tt)
 
 pub within-limited-instant : (t : Timestamp) → WithinInstant (limitedInstant t)
 unfolding limitedInstant
@@ -86,13 +86,13 @@ within-neg PositiveInfinity = tt
 pub neg-limited : (a : TimeDelta) → neg (limited a) ≡ neg a
 unfolding neg limited positive negative
 neg-limited NegativeInfinity = refl
-neg-limited (Negative d) = either (λ x. neg x ≡ positive d) (leb d limit) (λ e. refl) (λ e. rw e)
-neg-limited (Positive d) = either (λ x. neg x ≡ negative d) (leb d limit) (λ e. refl) (λ e. rw e)
+neg-limited (Negative d) = cases (λ x. neg x ≡ positive d) (leb d limit) (λ e. refl) (λ e. rw e)
+neg-limited (Positive d) = cases (λ x. neg x ≡ negative d) (leb d limit) (λ e. refl) (λ e. rw e)
 neg-limited PositiveInfinity = refl
 
 within-difference : {a b : ℕ} → a ≤ limit → b ≤ limit → Within (difference a b)
 unfolding difference
-within-difference {a} {b} h k = either Within (ltb a b) (λ e. omega arith) (λ e. omega arith)
+within-difference {a} {b} h k = cases Within (ltb a b) (λ e. omega arith) (λ e. omega arith)
 
 within-added : (a b : TimeDelta) → Within a → Within b → Within (addLimited a b)
 unfolding addLimited
@@ -121,8 +121,8 @@ within-sub a b = within-add a (neg b)
 within-divided : (a : TimeDelta) (n : ℕ) → Within a → Within (divLimited a n)
 unfolding divLimited
 within-divided NegativeInfinity n h = tt
-within-divided (Negative d) n h = either Within (eqb n 0) (λ e. tt) (λ e. le-trans (div-le-self d n) h)
-within-divided (Positive d) n h = either Within (eqb n 0) (λ e. tt) (λ e. le-trans (div-le-self d n) h)
+within-divided (Negative d) n h = cases Within (eqb n 0) (λ e. tt) (λ e. le-trans (div-le-self d n) h)
+within-divided (Positive d) n h = cases Within (eqb n 0) (λ e. tt) (λ e. le-trans (div-le-self d n) h)
 within-divided PositiveInfinity n h = tt
 
 pub within-div : (a : TimeDelta) (n : ℕ) → Within (div a n)
@@ -150,7 +150,7 @@ within-moved DistantPast NegativeInfinity h = tt
 within-moved DistantPast (Negative d) h = tt
 within-moved DistantPast (Positive d) h = tt
 within-moved (Exact t) NegativeInfinity h = tt
-within-moved (Exact t) (Negative d) h = either WithinInstant (ltb t d) (λ e. tt) (λ e. omega arith)
+within-moved (Exact t) (Negative d) h = cases WithinInstant (ltb t d) (λ e. tt) (λ e. omega arith)
 within-moved (Exact t) (Positive d) h = within-exact (t + d)
 within-moved DistantFuture NegativeInfinity h = tt
 within-moved DistantFuture (Negative d) h = tt
@@ -308,7 +308,7 @@ unfolding addDelta addLimitedDelta difference exact
 add-since a b h k =
     rw
     (since-exact a b h k, limited-within-instant (Exact b) k, limited-within (difference a b) (within-difference h k))
-    (either
+    (cases
     (λ d. addLimitedDelta (Exact b) d ≡ Exact a)
     (ltb a b)
     (λ e. rw (le-ltb b (b - a) (omega arith)) (ap Exact (omega (arith, ltb-true a b e))))

@@ -32,7 +32,7 @@ use Rattle.trendline.specs.declared.OptionOveruse.the-variants as Over
 use Rattle.trendline.specs.declared.Delays.{Delays}
 use Rattle.trendline.specs.declared.Judgement.{Judgement}
 use Rattle.trendline.specs.declared.TrendlineEstimator.{TrendlineEstimator}
-use Rattle.bool_laws.specs.Bools.{either}
+use Rattle.bool_laws.specs.Bools.{cases}
 use Rattle.trendline.specs.Trendline.{smoothingCoef, place, add, accumulate, addToHistory, linearFit, modifiedTrend, withTrend, overUseTimeThreshold, nextOveruse, overusing, judge, detect, new, addDelayObservation}
 use Rattle.trendline.specs.History.{First, Ascending, placed, insert-length, insert-each, insert-ascending, insert-full-length, insert-full-each, insert-full-ascending}
 use Rattle.trendline.specs.Milliseconds.{time-in, delta-in}
@@ -115,7 +115,7 @@ add-sound {s} {h} {time} {delay} k t d =
     let r = placed xs (h .len) time (λ i l. in-ordered (k .times i l)) (in-ordered t) in
     let p = place xs (h .len) time in
     rw (le-ltb 20 (h .len) (k .few))
-    (either (SoundHistory s) (ltb (h .len) 20)
+    (cases (SoundHistory s) (ltb (h .len) 20)
     (λ e.
     let l = ltb-true (h .len) 20 e in
     let m : h .len < length xs = rw (k .times-length) l in
@@ -171,20 +171,20 @@ judge-step d old hypothesis trend sent =
     let modified = modifiedTrend d trend in
     let o = nextOveruse old sent in
     let P : Judgement → Type 0 = λ j. OveruseStep old sent (j .overuse) in
-    either P (Ieee.lt (d .«delay_threshold») modified)
-    (λ e. either P (Time.lt (Time.positive overUseTimeThreshold) (o .«time_overusing») && ltb 1 (o .count) && Ieee.lt (d .«previous_trend») trend) (λ f. cleared) (λ f. next-step old sent))
-    (λ e. either P (Ieee.lt modified (neg (d .«delay_threshold»))) (λ f. cleared) (λ f. cleared))
+    cases P (Ieee.lt (d .«delay_threshold») modified)
+    (λ e. cases P (Time.lt (Time.positive overUseTimeThreshold) (o .«time_overusing») && ltb 1 (o .count) && Ieee.lt (d .«previous_trend») trend) (λ f. cleared) (λ f. next-step old sent))
+    (λ e. cases P (Ieee.lt modified (neg (d .«delay_threshold»))) (λ f. cleared) (λ f. cleared))
 
 detect-step : (t : TrendlineEstimator) (trend : Float) (sent : TimeDelta) (now : ℕ) → OveruseStep (t .overuse) sent (detect t trend sent now .overuse)
 unfolding detect
 detect-step t trend sent now =
-    either (λ (u : TrendlineEstimator). OveruseStep (t .overuse) sent (u .overuse)) (ltb (t .delays .«num_delay_variations») 2) (λ e. stays) (λ e. judge-step (t .delays) (t .overuse) (t .hypothesis) trend sent)
+    cases (λ (u : TrendlineEstimator). OveruseStep (t .overuse) sent (u .overuse)) (ltb (t .delays .«num_delay_variations») 2) (λ e. stays) (λ e. judge-step (t .delays) (t .overuse) (t .hypothesis) trend sent)
 
 pub overuse-step : (t : TrendlineEstimator) (v : InterGroupDelayDelta) (now : ℕ) → OveruseStep (t .overuse) (v .«send_delta») (addDelayObservation t v now .overuse)
 unfolding addDelayObservation addToHistory
 overuse-step t v now =
     let u = addToHistory t v in
-    either (λ (w : TrendlineEstimator). OveruseStep (t .overuse) (v .«send_delta») (w .overuse)) (eqb (u .history .len) 20)
+    cases (λ (w : TrendlineEstimator). OveruseStep (t .overuse) (v .«send_delta») (w .overuse)) (eqb (u .history .len) 20)
     (λ e. detect-step u (linearFit (u .history .times) (u .history .delays) (u .delays .«previous_trend»)) (v .«send_delta») now) (λ e. stays)
 
 step-sound : {old new′ : OptionOveruse} {sent : TimeDelta} → OveruseStep old sent new′ → SoundOveruse old → SoundOveruse new′
@@ -220,7 +220,7 @@ module _ {s : ℕ} (few : s ≤ 10 ^ 9 + 1) where
   unfolding detect withTrend
   detect-sound {t} trend sent {now} h o k =
       let d = t .delays in
-      either (Sound s) (ltb (d .«num_delay_variations») 2)
+      cases (Sound s) (ltb (d .«num_delay_variations») 2)
       (λ e. record { zero-time = h .zero-time; history = h .history; delays = h .delays; overuse = h .overuse; last-update = h .last-update })
       (λ e.
       let n = ltb-false (d .«num_delay_variations») 2 e in
@@ -244,7 +244,7 @@ module _ {s : ℕ} (few : s ≤ 10 ^ 9 + 1) where
       let u = addToHistory t v in
       let g = to-history-sound h o in
       let previous = u .delays .«previous_trend» in
-      either (Sound s) (eqb (u .history .len) 20)
+      cases (Sound s) (eqb (u .history .len) 20)
       (λ e.
       detect-sound (linearFit (u .history .times) (u .history .delays) previous) (v .«send_delta») g (history-fit few (g .history) (eqb-true (u .history .len) 20 e) previous (g .delays .trend)) k)
       (λ e. g)

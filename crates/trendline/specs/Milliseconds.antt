@@ -23,7 +23,7 @@ use Rattle.time.specs.declared.TimeDelta.{TimeDelta}
 use Rattle.time.specs.declared.TimeDelta.the-variants.{NegativeInfinity, Negative, Positive, PositiveInfinity}
 use Rattle.arrival_group.specs.Laws.{AtMost}
 use Rattle.arrival_group.specs.declared.InterGroupDelayDelta.{InterGroupDelayDelta}
-use Rattle.bool_laws.specs.Bools.{either}
+use Rattle.bool_laws.specs.Bools.{cases}
 use Rattle.trendline.specs.Trendline.{delayDelta, timeSince}
 use Rattle.trendline.specs.Slope.{wider, nonneg-within}
 
@@ -71,7 +71,7 @@ at-most-wider l PositiveInfinity h = h
 since-bound : {n a b : ℕ} → n ≤ limit → a ≤ n → b ≤ n → AtMost n (Time.since (Time.exact a) (Time.exact b))
 unfolding Time.exact difference
 since-bound {n} {a} {b} l h k =
-    rw (le-leb a limit (omega arith), le-leb b limit (omega arith), since-exact a b (omega arith) (omega arith)) (either (AtMost n) (ltb a b) (λ e. omega arith) (λ e. omega arith))
+    rw (le-leb a limit (omega arith), le-leb b limit (omega arith), since-exact a b (omega arith) (omega arith)) (cases (AtMost n) (ltb a b) (λ e. omega arith) (λ e. omega arith))
 
 -- ---- the time of a group, and the difference of two
 module _ {s : ℕ} (few : s ≤ 10 ^ 9 + 1) where

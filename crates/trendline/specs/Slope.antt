@@ -23,7 +23,7 @@ use Rattle.float_order.specs.Interval.{floats}
 use Rattle.float_order.specs.Exact.{le-add}
 use Rattle.float_order.specs.Dyadic.{two^}
 use Rattle.trendline.specs.declared.Fit.{Fit}
-use Rattle.bool_laws.specs.Bools.{either}
+use Rattle.bool_laws.specs.Bools.{cases}
 use Rattle.trendline.specs.Trendline.{totalFrom, total, withPoint, sumsFrom, sums, average, linearFit}
 use Rattle.trendline.specs.History.{First}
 use Rattle.trendline.specs.Term.{Scaled, scaled-wider, scaled-add, scaled-div, term}
@@ -269,4 +269,4 @@ module _ (times delays : List Float) (m : length times ≡ 20) (n : length delay
   -- it is no NaN where the previous trend is none
   pub fit-ordered : (previous : Float) → T (ordered previous) → T (ordered (linearFit times delays previous))
   unfolding linearFit
-  fit-ordered previous o = either (λ (z : Float). T (ordered z)) (Ieee.eq (fit times delays .denominator) (lit 0)) (λ e. o) (λ e. in-ordered (slope-in e))
+  fit-ordered previous o = cases (λ (z : Float). T (ordered z)) (Ieee.eq (fit times delays .denominator) (lit 0)) (λ e. o) (λ e. in-ordered (slope-in e))

@@ -17,7 +17,7 @@ use Rattle.float_order.specs.Casts.{ofInt-in, ofInt-mono}
 use Rattle.float.specs.Float as Float
 use Rattle.float.specs.MinMax.{min-in, clamp-in, abs-nonneg}
 use Rattle.trendline.specs.declared.Delays.{Delays}
-use Rattle.bool_laws.specs.Bools.{either}
+use Rattle.bool_laws.specs.Bools.{cases}
 use Rattle.trendline.specs.Trendline.{maxAdoptOffsetMs, thresholdGain, kUp, kDown, gain, moved, threshold, modifiedTrend}
 
 abbrev pub ThresholdIn : Float → Type 0
@@ -74,7 +74,7 @@ threshold-in d modified elapsed h o =
     let old = d .«delay_threshold» in
     let z : T (le zero₊ a) = abs-nonneg modified o in
     let s : In (nat 21) (nat 615) (F.add old maxAdoptOffsetMs) = add-in h (lit-in maxAdoptOffsetMs (unfold floats in tt)) (unfold floats in tt) in
-    either ThresholdIn (lt (F.add old maxAdoptOffsetMs) a) (λ e. h)
+    cases ThresholdIn (lt (F.add old maxAdoptOffsetMs) a) (λ e. h)
     (λ e.
     let small : In zero₊ (nat 615) a =
     record { low = z; high = le-trans a (F.add old maxAdoptOffsetMs) (nat 615) (lt-left→le (F.add old maxAdoptOffsetMs) a (in-ordered s) (le-ordered-r zero₊ a z) e) (s .high) } in
