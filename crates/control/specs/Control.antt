@@ -21,7 +21,6 @@ use Rattle.time.specs.declared.OptionInstant.the-variants as Instant
 use Rattle.time.specs.declared.OptionDuration.{OptionDuration}
 use Rattle.time.specs.declared.OptionDuration.the-variants as Duration
 use Rattle.arrival_group.specs.ArrivalGroup as Group
-use Rattle.arrival_group.specs.declared.ArrivalGroupAccumulator.{ArrivalGroupAccumulator}
 use Rattle.arrival_group.specs.declared.OptionDelta.{OptionDelta}
 use Rattle.arrival_group.specs.declared.OptionDelta.the-variants as Delta
 use Rattle.trendline.specs.Trendline as Trendline

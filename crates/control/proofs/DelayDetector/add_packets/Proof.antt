@@ -5,7 +5,6 @@ use mathlib.Core.Logic.{⊎-elim}
 use native.Mathlib.Omega.{arith}
 use borrow.Author.Needs.{needs}
 use lib.ListN.{drop}
-use Rattle.control.specs.declared.DelayDetector.{DelayDetector}
 use Rattle.control.specs.Control.{addPacket, addPackets, fold, observe}
 use Rattle.control.proofs.Laws.{fold-turn, fold-end}
 use Rattle.control.proofs.DelayDetector.add_packets.Statement.{statement}
