@@ -1,5 +1,5 @@
 -- Laws of the delay controller: the next timeout, a probe's estimate, what a call leaves as it was, and the range of the smoothed round trip.
-use Prim.Native.Nat.{ℕ, _-_, _/_, _%_, _^_, _≤_}
+use Prim.Native.Nat.{ℕ, _/_, _%_, _^_, _≤_}
 use native.Mathlib.Omega.{arith}
 use mathlib.Core.Path.{_≡_, refl}
 use mathlib.Core.Bool.{Bool, true, false, cond}
@@ -24,12 +24,10 @@ use Rattle.time.specs.declared.OptionDuration.{OptionDuration}
 use Rattle.time.specs.declared.OptionDuration.the-variants as Duration
 use Rattle.rate_control.specs.RateControl as RateControl
 use Rattle.control.specs.declared.DelayController.{DelayController}
-use Rattle.control.specs.declared.Packets.{Packets}
 use Rattle.control.specs.Control.{
-  add,
-  addAll,
-  begin,
+  fold,
   handleTimeout,
+  maxRtt,
   rttSmoothingFactor,
   trendlineHypothesisValid,
   update,
@@ -48,6 +46,18 @@ either P false p q = q
 pub wait-le : (c : DelayController) → wait c ≤ updateInterval
 unfolding wait
 wait-le c = omega arith
+
+-- ---- a report's packets: what each pair of instants, at most n, keeps, the fold keeps
+abbrev pub Instants : ℕ → List ℕ → List ℕ → Type 0
+Instants n [] ys = Unit {0}
+Instants n (x ∷ xs) [] = Unit {0}
+Instants n (x ∷ xs) (y ∷ ys) = (x ≤ n) × (y ≤ n) × Instants n xs ys
+
+pub fold-keeps : {S : Type 0} {f : S → ℕ → ℕ → S} {n : ℕ} (P : S → Type 0) → ((s : S) (x y : ℕ) → P s → x ≤ n → y ≤ n → P (f s x y)) → {s : S} (xs ys : List ℕ) → Instants n xs ys → P s → P (fold f s xs ys)
+unfolding fold
+fold-keeps P k [] ys h p = p
+fold-keeps P k (x ∷ xs) [] h p = p
+fold-keeps P k {s} (x ∷ xs) (y ∷ ys) h p = fold-keeps P k xs ys (h .2) (k s x y p (h .0) (h .1))
 
 -- ---- a report
 module _ (c : DelayController) (sends remotes receives : List ℕ) (acked : OptionBitrate) (now : ℕ) where
@@ -69,7 +79,7 @@ pub record Unmeasured (before after : DelayController) : Type 0 where
 
 -- a report of no packets measures nothing
 pub update-none : (c : DelayController) (remotes receives : List ℕ) (acked probe : OptionBitrate) (now : ℕ) → Unmeasured c (update c [] remotes receives acked probe now)
-unfolding update updateEstimate withRate withPackets addAll updateRtt
+unfolding update updateEstimate withRate withPackets fold updateRtt
 update-none c remotes receives acked probe now = record { groups = refl; trendline = refl; smoothed = refl }
 
 -- ---- a timeout measures nothing, is no report, and asks for the next one within 25 ms
@@ -97,18 +107,8 @@ unfolding longest
 longest-most Duration.None h k = k
 longest-most {n} {rtt} (Duration.Some d) h k = either (λ x. x ≤ n) (ltb d rtt) k h
 
--- each packet's round trip, by its send and its local receive instant, is at most n
-abbrev pub RoundTrips : ℕ → List ℕ → List ℕ → Type 0
-RoundTrips n [] receives = Unit {0}
-RoundTrips n (s ∷ sends) [] = Unit {0}
-RoundTrips n (s ∷ sends) (l ∷ receives) = (l - s ≤ n) × RoundTrips n sends receives
-
-pub add-all-most : (n : ℕ) (p : Packets) (sends remotes receives : List ℕ) → RoundTrips n sends receives → AtMost n (p .«max_rtt») → AtMost n (addAll p sends remotes receives .«max_rtt»)
-unfolding addAll add
-add-all-most n p [] remotes receives h k = k
-add-all-most n p (s ∷ sends) [] receives h k = k
-add-all-most n p (s ∷ sends) (r ∷ remotes) [] h k = k
-add-all-most n p (s ∷ sends) (r ∷ remotes) (l ∷ receives) h k = add-all-most n (add p s r l) sends remotes receives (h .1) (longest-most (p .«max_rtt») k (h .0))
+pub max-rtt-most : (n : ℕ) (sends receives : List ℕ) → Instants n sends receives → AtMost n (maxRtt sends receives)
+max-rtt-most n sends receives h = fold-keeps (AtMost n) (λ d s l g i j. longest-most d g (omega arith)) sends receives h tt
 
 -- 10 ^ 9 seconds
 abbrev pub mostRtt : Float
@@ -128,8 +128,8 @@ update-rtt-kept Duration.None h k = k
 update-rtt-kept (Duration.Some d) h k =
     Average.update-kept Average.round-trips (in-wider (secs-in d (10 ^ 18) h (omega arith)) (unfold asSecsF64 floats in tt)) (secs-fits d) k
 
-pub update-kept : (c : DelayController) (sends remotes receives : List ℕ) (acked probe : OptionBitrate) (now : ℕ) → RoundTrips (10 ^ 18) sends receives → KeptRtt (c .«smoothed_rtt»)
+pub update-kept : (c : DelayController) (sends remotes receives : List ℕ) (acked probe : OptionBitrate) (now : ℕ) → Instants (10 ^ 18) sends receives → KeptRtt (c .«smoothed_rtt»)
     → KeptRtt (update c sends remotes receives acked probe now .«smoothed_rtt»)
 unfolding update updateEstimate withRate withPackets
 update-kept c sends remotes receives acked probe now h k =
-    update-rtt-kept (addAll (begin c) sends remotes receives .«max_rtt») (add-all-most (10 ^ 18) (begin c) sends remotes receives h tt) k
+    update-rtt-kept (maxRtt sends receives) (max-rtt-most (10 ^ 18) sends receives h) k

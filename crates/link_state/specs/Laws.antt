@@ -1,7 +1,7 @@
 -- What a passed question 1 tells of a link, over numbers. `Sized` is known of every value of the code.
 use mathlib.Core.Path.{_≡_, refl, ap}
-use mathlib.Core.Logic.{_⊎_, inl, inr}
-use mathlib.Core.Bool.{Bool, true, false, not, _&&_, _||_}
+use mathlib.Core.Logic.{inl, inr}
+use mathlib.Core.Bool.{Bool, true, false, not, _&&_}
 use mathlib.Core.List.{List, [], _∷_}
 use Prim.Native.Nat.{ℕ, zero, suc, _+_, _*_, _^_, _≤_, _<_}
 use native.Mathlib.Omega.{arith}
@@ -35,13 +35,10 @@ use Rattle.time.specs.declared.TimeDelta.{TimeDelta}
 use Rattle.time.specs.declared.TimeDelta.the-variants as Delta
 use Rattle.acked_bitrate_estimator.specs.Laws.{ValidSum, ValidWindow}
 use Rattle.acked_bitrate_estimator.specs.declared.AckedBitrateEstimator.{AckedBitrateEstimator}
-use Rattle.arrival_group.specs.ArrivalGroup as Group
 use Rattle.arrival_group.specs.Laws.{AtMost}
 use Rattle.arrival_group.specs.declared.ArrivalGroup.{ArrivalGroup}
-use Rattle.arrival_group.specs.declared.OptionFirst.{OptionFirst}
-use Rattle.arrival_group.specs.declared.OptionFirst.the-variants as First
 use Rattle.arrival_group.specs.declared.OptionGroup.{OptionGroup}
-use Rattle.arrival_group.specs.declared.OptionGroup.the-variants as Previous
+use Rattle.arrival_group.specs.declared.OptionGroup.the-variants as G
 use Rattle.arrival_group.specs.declared.ArrivalGroupAccumulator.{ArrivalGroupAccumulator}
 use Rattle.trendline.specs.History as Timings
 use Rattle.trendline.specs.Laws.{SoundDelays, SoundHistory, SoundOveruse, Sound}
@@ -57,7 +54,6 @@ use Rattle.rate_control.specs.declared.RateControl.{RateControl as RateControlS
 use Rattle.control.specs.Control.{minEstimate, maxEstimate, rttSmoothingFactor}
 use Rattle.questions.specs.Questions.{windowIn}
 use Rattle.link_state.specs.State.{
-  absent,
   ackedIn,
   ackedRateIn,
   allWithin,
@@ -67,9 +63,7 @@ use Rattle.link_state.specs.State.{
   controlIn,
   delaysIn,
   durationIn,
-  emptyGroup,
-  firstAbsent,
-  firstPresent,
+  groupIn,
   groupsIn,
   historyIn,
   inRange,
@@ -86,12 +80,9 @@ use Rattle.link_state.specs.State.{
   mostTime,
   overuseIn,
   overuseTimeIn,
-  present,
-  previousIn,
   rateControlIn,
   sumIn,
   trendlineIn,
-  wholeGroup,
   within,
 }
 use Rattle.link_state.specs.declared.Link.{Link}
@@ -128,31 +119,20 @@ pub record AckedInRange (a : AckedBitrateEstimator) : Type 0 where
   pub elapsed : a .«current_window» ≤ 10 ^ 10
   pub last-update : InstantAtMost mostNs (a .«last_update»)
 
-pub record Present (t : OptionInstant) : Type 0 where
-  pub at : ℕ
-  pub is : t ≡ Instant.Some at
-  pub few : at ≤ mostNs
+pub record GroupInRange (g : ArrivalGroup) : Type 0 where
+  pub first-send : g .«first_local_send_time» ≤ mostNs
+  pub first-remote : g .«first_remote_recv_time» ≤ mostNs
+  pub last-send : g .«last_local_send_time» ≤ mostNs
+  pub last-remote : g .«last_remote_recv_time» ≤ mostNs
 
-pub record FirstPresent (first : OptionFirst) : Type 0 where
-  pub send : ℕ
-  pub remote : ℕ
-  pub is : first ≡ First.Some send remote
-  pub few-send : send ≤ mostNs
-  pub few-remote : remote ≤ mostNs
-
-pub record WholeGroup (g : ArrivalGroup) : Type 0 where
-  pub first : FirstPresent (g .first)
-  pub send : Present (g .«last_local_send_time»)
-  pub remote : Present (g .«last_remote_recv_time»)
-
-abbrev pub WholeIfAny : OptionGroup → Type 0
-WholeIfAny Previous.None = Unit {0}
-WholeIfAny (Previous.Some g) = WholeGroup g
+abbrev pub InRangeIfAny : OptionGroup → Type 0
+InRangeIfAny G.None = Unit {0}
+InRangeIfAny (G.Some g) = GroupInRange g
 
 pub record GroupsInRange (a : ArrivalGroupAccumulator) : Type 0 where
   pub origin : InstantAtMost mostNs (a .«send_time_origin»)
-  pub previous : WholeIfAny (a .«previous_group»)
-  pub current : WholeGroup (a .«current_group») ⊎ (a .«current_group» ≡ Group.new)
+  pub previous : InRangeIfAny (a .«previous_group»)
+  pub current : InRangeIfAny (a .«current_group»)
 
 abbrev pub OveruseInRange : OptionOveruse → Type 0
 OveruseInRange Over.None = Unit {0}
@@ -253,53 +233,13 @@ acked a h =
     }
 
 -- ---- groups
-is-present : (t : OptionInstant) → present t ≡ true → Present t
-is-present Instant.None h = absurd (is-true false h)
-is-present (Instant.Some t) h = record { at = t; is = refl; few = leb-true t mostNs h }
-
-first-present : (f : OptionFirst) → firstPresent f ≡ true → FirstPresent f
-first-present First.None h = absurd (is-true false h)
-first-present (First.Some s r) h = record { send = s; remote = r; is = refl; few-send = search (left, leb-true); few-remote = search (left, right, leb-true) }
-
-is-absent : (t : OptionInstant) → absent t ≡ true → t ≡ Instant.None
-is-absent Instant.None h = refl
-is-absent (Instant.Some t) h = absurd (is-true false h)
-
-first-absent : (f : OptionFirst) → firstAbsent f ≡ true → f ≡ First.None
-first-absent First.None h = refl
-first-absent (First.Some s r) h = absurd (is-true false h)
-
-whole : (g : ArrivalGroup) → wholeGroup g ≡ true → WholeGroup g
-unfolding wholeGroup
-whole g h = search (left, right, first-present, is-present)
-
-group : OptionFirst → OptionInstant → OptionInstant → ArrivalGroup
-group f s r = record { first = f; «last_local_send_time» = s; «last_remote_recv_time» = r }
-
-empty : (g : ArrivalGroup) → emptyGroup g ≡ true → g ≡ Group.new
-unfolding emptyGroup group
-empty g h =
-    let f : g .first ≡ First.None = search (left, right, first-absent) in
-    let s : g .«last_local_send_time» ≡ Instant.None = search (left, right, is-absent) in
-    let r : g .«last_remote_recv_time» ≡ Instant.None = search (left, right, is-absent) in
-    let e : group (g .first) (g .«last_local_send_time») (g .«last_remote_recv_time») ≡ group First.None Instant.None Instant.None = cc in
-    e
-
-previous : (p : OptionGroup) → previousIn p ≡ true → WholeIfAny p
-previous Previous.None h = tt
-previous (Previous.Some g) h = whole g h
-
-current : (g : ArrivalGroup) (t : Bool) → wholeGroup g ≡ t → t || emptyGroup g ≡ true → WholeGroup g ⊎ (g ≡ Group.new)
-current g true e h = inl (whole g e)
-current g false e h = inr (empty g h)
+group : (g : OptionGroup) → groupIn g ≡ true → InRangeIfAny g
+group G.None h = tt
+group (G.Some g) h = search (left, right, leb-true)
 
 groups : (a : ArrivalGroupAccumulator) → groupsIn a ≡ true → GroupsInRange a
 unfolding groupsIn
-groups a h = record {
-  origin = search (left, right, instant);
-  previous = search (left, right, previous);
-  current = current (a .«current_group») (wholeGroup (a .«current_group»)) refl (search (left, right));
-}
+groups a h = search (left, right, instant, group)
 
 -- ---- the trendline
 module _ (P : Float → Type 0) (n : ℕ) (xs : List Float) (h : n ≤ length xs) where

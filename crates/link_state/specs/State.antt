@@ -23,11 +23,8 @@ use Rattle.time.specs.declared.OptionInstant.the-variants as Instant
 use Rattle.time.specs.declared.OptionDuration.{OptionDuration}
 use Rattle.time.specs.declared.OptionDuration.the-variants as Duration
 use Rattle.acked_bitrate_estimator.specs.declared.AckedBitrateEstimator.{AckedBitrateEstimator}
-use Rattle.arrival_group.specs.declared.ArrivalGroup.{ArrivalGroup}
-use Rattle.arrival_group.specs.declared.OptionFirst.{OptionFirst}
-use Rattle.arrival_group.specs.declared.OptionFirst.the-variants as First
 use Rattle.arrival_group.specs.declared.OptionGroup.{OptionGroup}
-use Rattle.arrival_group.specs.declared.OptionGroup.the-variants as Previous
+use Rattle.arrival_group.specs.declared.OptionGroup.the-variants as G
 use Rattle.arrival_group.specs.declared.ArrivalGroupAccumulator.{ArrivalGroupAccumulator}
 use Rattle.trendline.specs.declared.History.{History}
 use Rattle.trendline.specs.declared.Delays.{Delays}
@@ -86,14 +83,6 @@ mostRoundTrip = lit 0x41cd_cd65_0000_0000
 abbrev pub within : Float → Float → Float → Bool
 within low high x = Ieee.le low x && Ieee.le x high
 
-abbrev pub present : OptionInstant → Bool
-present Instant.None = false
-present (Instant.Some t) = leb t mostNs
-
-abbrev pub absent : OptionInstant → Bool
-absent Instant.None = true
-absent (Instant.Some t) = false
-
 abbrev pub instantIn : OptionInstant → Bool
 instantIn Instant.None = true
 instantIn (Instant.Some t) = leb t mostNs
@@ -133,30 +122,17 @@ ackedIn a =
     && leb (a .«current_window») 10000000000
     && instantIn (a .«last_update»)
 
--- ---- a group's times all present, or all absent in the current group only
-abbrev pub firstPresent : OptionFirst → Bool
-firstPresent First.None = false
-firstPresent (First.Some send remote) = leb send mostNs && leb remote mostNs
-
-abbrev pub firstAbsent : OptionFirst → Bool
-firstAbsent First.None = true
-firstAbsent (First.Some send remote) = false
-
-unfoldable pub wholeGroup : ArrivalGroup → Bool
-wholeGroup g = firstPresent (g .first) && present (g .«last_local_send_time») && present (g .«last_remote_recv_time»)
-
-unfoldable pub emptyGroup : ArrivalGroup → Bool
-emptyGroup g = firstAbsent (g .first) && absent (g .«last_local_send_time») && absent (g .«last_remote_recv_time»)
-
-abbrev pub previousIn : OptionGroup → Bool
-previousIn Previous.None = true
-previousIn (Previous.Some g) = wholeGroup g
+-- ---- groups: the times of one are all there, or there is no group, by its type
+abbrev pub groupIn : OptionGroup → Bool
+groupIn G.None = true
+groupIn (G.Some g) =
+    leb (g .«first_local_send_time») mostNs
+    && leb (g .«first_remote_recv_time») mostNs
+    && leb (g .«last_local_send_time») mostNs
+    && leb (g .«last_remote_recv_time») mostNs
 
 unfoldable pub groupsIn : ArrivalGroupAccumulator → Bool
-groupsIn a =
-    instantIn (a .«send_time_origin»)
-    && previousIn (a .«previous_group»)
-    && (wholeGroup (a .«current_group») || emptyGroup (a .«current_group»))
+groupsIn a = instantIn (a .«send_time_origin») && groupIn (a .«previous_group») && groupIn (a .«current_group»)
 
 -- ---- the trendline
 -- a list that rises, or stays, from low to high

@@ -5,9 +5,7 @@ ghost use lib.Ieee as Ieee;
 ghost use lib.ListN.{take};
 ghost use Rattle.link_state.specs.State as State;
 use acked_bitrate_estimator::AckedBitrateEstimator;
-use arrival_group::ArrivalGroup;
 use arrival_group::ArrivalGroupAccumulator;
-use arrival_group::OptionFirst;
 use arrival_group::OptionGroup;
 use average::MovingAverage;
 use average::OptionF64;
@@ -49,24 +47,6 @@ fn within(low: f64, high: f64, x: f64) -> bool
     ensures { λ r. ⌜ r ≡ State.within low high x ⌝ }
 {
     (low <= x) & (x <= high)
-}
-
-fn present(t: OptionInstant) -> bool
-    ensures { λ r. ⌜ r ≡ State.present t ⌝ }
-{
-    match t {
-        OptionInstant::None => false,
-        OptionInstant::Some(ns) => ns <= MOST_NS,
-    }
-}
-
-fn absent(t: OptionInstant) -> bool
-    ensures { λ r. ⌜ r ≡ State.absent t ⌝ }
-{
-    match t {
-        OptionInstant::None => true,
-        OptionInstant::Some(_) => false,
-    }
 }
 
 fn instant_in(t: OptionInstant) -> bool
@@ -139,48 +119,15 @@ fn acked_in(a: AckedBitrateEstimator) -> bool
 }
 
 // ---- groups
-fn first_present(first: OptionFirst) -> bool
-    ensures { λ r. ⌜ r ≡ State.firstPresent first ⌝ }
+fn group_in(group: OptionGroup) -> bool
+    ensures { λ r. ⌜ r ≡ State.groupIn group ⌝ }
 {
-    match first {
-        OptionFirst::None => false,
-        OptionFirst::Some(send, remote) => (send <= MOST_NS) & (remote <= MOST_NS),
-    }
-}
-
-fn first_absent(first: OptionFirst) -> bool
-    ensures { λ r. ⌜ r ≡ State.firstAbsent first ⌝ }
-{
-    match first {
-        OptionFirst::None => true,
-        OptionFirst::Some(_, _) => false,
-    }
-}
-
-fn whole_group(g: ArrivalGroup) -> bool
-    ensures { λ r. ⌜ r ≡ State.wholeGroup g ⌝ }
-{
-    let first = g.first;
-    let send = g.last_local_send_time;
-    let remote = g.last_remote_recv_time;
-    first_present(first) & present(send) & present(remote)
-}
-
-fn empty_group(g: ArrivalGroup) -> bool
-    ensures { λ r. ⌜ r ≡ State.emptyGroup g ⌝ }
-{
-    let first = g.first;
-    let send = g.last_local_send_time;
-    let remote = g.last_remote_recv_time;
-    first_absent(first) & absent(send) & absent(remote)
-}
-
-fn previous_in(previous: OptionGroup) -> bool
-    ensures { λ r. ⌜ r ≡ State.previousIn previous ⌝ }
-{
-    match previous {
+    match group {
         OptionGroup::None => true,
-        OptionGroup::Some(g) => whole_group(g),
+        OptionGroup::Some(g) => (g.first_local_send_time <= MOST_NS)
+            & (g.first_remote_recv_time <= MOST_NS)
+            & (g.last_local_send_time <= MOST_NS)
+            & (g.last_remote_recv_time <= MOST_NS),
     }
 }
 
@@ -190,7 +137,7 @@ fn groups_in(a: ArrivalGroupAccumulator) -> bool
     let origin = a.send_time_origin;
     let previous = a.previous_group;
     let current = a.current_group;
-    instant_in(origin) & previous_in(previous) & (whole_group(current) | empty_group(current))
+    instant_in(origin) & group_in(previous) & group_in(current)
 }
 
 // ---- the trendline
