@@ -7,7 +7,7 @@ use mathlib.Core.List.{List, [], _∷_}
 use borrow.Author.Tests.{leb-true, eqb-true}
 use lib.Dec.{leb, eqb}
 use lib.ListN.{length}
-use Rattle.control.specs.Laws.{RoundTrips}
+use Rattle.control.specs.Laws.{Instants}
 use Rattle.receive_order.specs.Lists.{All}
 use Rattle.receive_order.specs.Laws.{ordered-all}
 use Rattle.link_state.specs.declared.Link.{Link}
@@ -91,7 +91,7 @@ lengths sequences sizes sends remotes receives e =
 pub in-order : (r : Report) (P : ℕ → Type 0) (xs : List ℕ) → length xs ≡ length (r .sequences) → All P xs → All P (inOrder r xs)
 in-order r P xs e h = ordered-all (r .remotes) (r .sends) (r .sequences) xs P (omega arith) h
 
-pub round-trips : (n : ℕ) (sends receives : List ℕ) → All (λ t. t ≤ n) receives → RoundTrips n sends receives
-round-trips n [] receives h = tt
-round-trips n (s ∷ sends) [] h = tt
-round-trips n (s ∷ sends) (l ∷ receives) h = (omega arith, round-trips n sends receives (h .1))
+pub instants : (n : ℕ) (xs ys : List ℕ) → All (λ t. t ≤ n) xs → All (λ t. t ≤ n) ys → Instants n xs ys
+instants n [] ys h k = tt
+instants n (x ∷ xs) [] h k = tt
+instants n (x ∷ xs) (y ∷ ys) h k = (h .0, k .0, instants n xs ys (h .1) (k .1))
