@@ -15,7 +15,7 @@ use Rattle.recovery.specs.Runs as Runs
 use Rattle.recovery.specs.Runs.{Machine}
 use Rattle.acked_bitrate_estimator.specs.Laws.{ValidEstimate}
 use Rattle.control.specs.Control as Control
-use Rattle.control.specs.Control.{addAll, begin, getSmoothedRtt, handleTimeout, rateAfter, trendlineHypothesisValid, updateEstimate, wait, withPackets, withRate}
+use Rattle.control.specs.Control.{getSmoothedRtt, handleTimeout, rateAfter, trendlineHypothesisValid, updateEstimate, wait, withPackets, withRate}
 use Rattle.control.specs.declared.DelayController.{DelayController}
 use Rattle.questions.specs.Questions.{Report, inOrder, ordered}
 use Rattle.link_state.specs.declared.Link.{Link}
@@ -54,7 +54,7 @@ control-after l (report r) = go (report-answered l r)
   where
     go : {o : Outcome} → Answered (reportQuestions l r) l (updated l (ordered r)) o → o .link .control .«rate_control» ≡ after (l .control .«rate_control») (reportHands o r)
     go turnedDown = refl
-    go (taken y) = rate-after (r .probe) _ (withPackets (l .control) (addAll (begin (l .control)) (inOrder r (r .sends)) (inOrder r (r .remotes)) (inOrder r (r .receives))) (r .now)) (r .now)
+    go (taken y) = rate-after (r .probe) _ (withPackets (l .control) (inOrder r (r .sends)) (inOrder r (r .remotes)) (inOrder r (r .receives)) (r .now)) (r .now)
 control-after l (timeout now) = go (timeout-answered l now)
   where
     go : {o : Outcome} → Answered (timeoutQuestions l now) l (timedOut l now) o → o .link .control .«rate_control» ≡ after (l .control .«rate_control») (timeoutHands o l now)

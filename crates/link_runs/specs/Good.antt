@@ -31,7 +31,7 @@ use Rattle.rate_control.specs.Laws as Rates
 use Rattle.rate_control.specs.Laws.{InstantAtMost, DurationAtMost}
 use Rattle.rate_control.specs.declared.RateControl as R
 use Rattle.control.specs.Control as Control
-use Rattle.control.specs.Control.{addAll, begin, getSmoothedRtt, handleTimeout, maxEstimate, minEstimate, rateAfter, rttOf, rttSmoothingFactor, trendlineHypothesisValid, updateEstimate, updateInterval, withPackets, withRate}
+use Rattle.control.specs.Control.{detector, getSmoothedRtt, handleTimeout, maxEstimate, minEstimate, rateAfter, rttOf, rttSmoothingFactor, trendlineHypothesisValid, updateEstimate, updateInterval, withPackets, withRate}
 use Rattle.control.specs.Laws.{KeptRtt, mostRtt, timeout-none, timeout-report, timeout-timeout, update-kept}
 use Rattle.control.specs.declared.DelayController.{DelayController}
 use Rattle.receive_order.specs.Lists.{All}
@@ -45,7 +45,7 @@ use Rattle.link_runs.specs.Acknowledged as Acknowledged
 use Rattle.link_runs.specs.Acknowledged.{GoodAcked, acknowledge-good}
 use Rattle.link_runs.specs.Packets as Packets
 use Rattle.link_runs.specs.Packets.{GoodPackets, packets-good}
-use Rattle.link_runs.specs.Answered.{AllYes, Answered, all-yes, at-least, at-most, in-order, report-answered, round-trips, timeout-answered}
+use Rattle.link_runs.specs.Answered.{AllYes, Answered, all-yes, at-least, at-most, in-order, instants, report-answered, timeout-answered}
 use Rattle.link_runs.specs.Answered.Answered.{turnedDown, taken}
 
 -- the limits are the estimate's, and its statistics are in their ranges
@@ -55,7 +55,7 @@ pub record GoodRate (c : R.RateControl) : Type 0 where
 
 pub record Good (l : Link) : Type 0 where
   pub acked : GoodAcked (l .acked)
-  pub packets : GoodPackets (l .control .«arrival_group_accumulator») (l .control .«trendline_estimator»)
+  pub packets : GoodPackets (detector (l .control))
   pub rate : GoodRate (l .control .«rate_control»)
   pub roundTrip : KeptRtt (l .control .«smoothed_rtt»)
   pub timeout : l .control .«next_timeout» ≤ mostInstant + updateInterval
@@ -116,11 +116,11 @@ unfolding updated Control.update updateEstimate withRate withPackets saturatingA
 updated-good l r h g =
     let acked = acknowledge-good (l .acked) (r .remotes) (r .sizes) (h .remotes-in) (h .sizes-in) (h .sums-in) (g .acked) in
     let observed = acknowledge (l .acked) (r .remotes) (r .sizes) .estimate in
-    let trips = update-kept (l .control) (r .sends) (r .remotes) (r .receives) observed (r .probe) (r .now) (round-trips mostInstant (r .sends) (r .receives) (h .receives-in)) (g .roundTrip) in
-    let measured = withPackets (l .control) (addAll (begin (l .control)) (r .sends) (r .remotes) (r .receives)) (r .now) in
+    let trips = update-kept (l .control) (r .sends) (r .remotes) (r .receives) observed (r .probe) (r .now) (instants mostInstant (r .sends) (r .receives) (h .sends-in) (h .receives-in)) (g .roundTrip) in
+    let measured = withPackets (l .control) (r .sends) (r .remotes) (r .receives) (r .now) in
     record {
       acked = acked;
-      packets = packets-good (begin (l .control)) (r .sends) (r .remotes) (r .receives) (h .sends-in) (h .remotes-in) (g .packets);
+      packets = packets-good (detector (l .control)) (r .sends) (r .remotes) (instants mostInstant (r .sends) (r .remotes) (h .sends-in) (h .remotes-in)) (g .packets);
       rate = rate-good (r .probe) observed measured (r .now) (h .probe-in) (acked .reached .estimate) (h .now-in) trips (g .rate);
       roundTrip = trips;
       timeout = omega (arith, h .now-in);
