@@ -58,6 +58,9 @@ within b low high = Float.within (low .0) (high .0) (b .0)
 abbrev pub mul : Bitrate → Float → Bitrate
 mul b k = rate (times (b .0) k)
 
+abbrev pub eq : Bitrate → Bitrate → Bool
+eq a b = Ieee.eq (a .0) (b .0)
+
 abbrev pub lt : Bitrate → Bitrate → Bool
 lt a b = Ieee.lt (a .0) (b .0)
 

@@ -4,7 +4,9 @@ use mathlib.Core.Bool.{Bool, false, cond}
 use mathlib.Core.List.{List, [], _∷_}
 use lib.Dec.{leb}
 use lib.Ieee.{Float}
-use Rattle.float_order.specs.Binary64.{lit}
+use mathlib.Core.Path.{_≡_, refl}
+use Rattle.float_order.specs.Binary64.{lit, decimal}
+use Rattle.float_order.specs.Interval.{floats}
 use Rattle.seconds.specs.Seconds.{asSecsF64, fromSecsF64}
 use Rattle.average.specs.Average as Average
 use Rattle.average.specs.declared.OptionF64.{OptionF64}
@@ -30,7 +32,7 @@ use Rattle.rate_control.specs.declared.RateControl as R
 use Rattle.control.specs.declared.DelayController.{DelayController}
 use Rattle.control.specs.declared.DelayDetector.{DelayDetector}
 
--- ---- constants: 25 ms and 500 ms; the smoothing factor 1/8; the limits of an estimate
+-- ---- constants: 25 ms and 500 ms; the smoothing factor 1/8
 abbrev pub updateInterval : ℕ
 updateInterval = 25000000
 
@@ -40,11 +42,8 @@ maxTwccGap = 500000000
 abbrev pub rttSmoothingFactor : Float
 rttSmoothingFactor = lit 0x3fc0_0000_0000_0000
 
-abbrev pub minEstimate : Bitrate
-minEstimate = B.rate (lit 0x40e3_8800_0000_0000)
-
-abbrev pub maxEstimate : Bitrate
-maxEstimate = B.rate (lit 0x4202_a05f_2000_0000)
+pub rttSmoothingFactor-is : rttSmoothingFactor ≡ decimal 125 1000
+rttSmoothingFactor-is = unfold floats in refl
 
 -- before the first report its age is over any limit, and the next timeout is 0, meaning due
 unfoldable pub new : Bitrate → DelayController
@@ -52,7 +51,7 @@ new initial =
     record {
       «arrival_group_accumulator» = Group.newAccumulator;
       «trendline_estimator» = Trendline.new;
-      «rate_control» = RateControl.new initial minEstimate maxEstimate;
+      «rate_control» = RateControl.new initial B.minEstimate B.maxEstimate;
       «smoothed_rtt» = Average.new rttSmoothingFactor;
       «next_timeout» = 0;
       «last_twcc_report» = Instant.None;

@@ -8,9 +8,11 @@ use lib.Dec.{T, ltb}
 use lib.Ieee.{Float, binary64, div, fits, ofInt}
 use lib.Ieee.Fits.{add-fits}
 use lib.IntN.{pos}
-use Rattle.float_order.specs.Binary64.{lit}
-use Rattle.float_order.specs.Range.{in-wider}
+use lib.Ieee.Bits.{ofBits-fits}
+use Rattle.float_order.specs.Binary64.{lit, decimal}
+use Rattle.float_order.specs.Range.{in-wider, in-closed}
 use Rattle.float_order.specs.Interval.{floats}
+use Rattle.bool_laws.specs.Bools.{chosen}
 use Rattle.seconds.specs.Seconds.{asSecsF64}
 use Rattle.seconds.specs.Laws.{secs-in}
 use Rattle.average.specs.Laws as Average
@@ -38,10 +40,6 @@ use Rattle.control.specs.Control.{
   withPackets,
   withRate,
 }
-
-either : {A : Type 0} (P : A → Type 0) (t : Bool) {x y : A} → P x → P y → P (cond t x y)
-either P true p q = p
-either P false p q = q
 
 pub wait-le : (c : DelayController) → wait c ≤ updateInterval
 unfolding wait
@@ -86,16 +84,16 @@ update-none c remotes receives acked probe now = record { groups = refl; trendli
 module _ (c : DelayController) (acked : OptionBitrate) (now : ℕ) where
   pub timeout-none : Unmeasured c (handleTimeout c acked now)
   unfolding handleTimeout updateEstimate withRate
-  timeout-none = either (Unmeasured c) (trendlineHypothesisValid c now) (record { groups = refl; trendline = refl; smoothed = refl }) (record { groups = refl; trendline = refl; smoothed = refl })
+  timeout-none = chosen (Unmeasured c) (trendlineHypothesisValid c now) (record { groups = refl; trendline = refl; smoothed = refl }) (record { groups = refl; trendline = refl; smoothed = refl })
 
   pub timeout-report : handleTimeout c acked now .«last_twcc_report» ≡ c .«last_twcc_report»
   unfolding handleTimeout updateEstimate withRate
-  timeout-report = either (λ (a : DelayController). a .«last_twcc_report» ≡ c .«last_twcc_report») (trendlineHypothesisValid c now) refl refl
+  timeout-report = chosen (λ (a : DelayController). a .«last_twcc_report» ≡ c .«last_twcc_report») (trendlineHypothesisValid c now) refl refl
 
   pub timeout-timeout : handleTimeout c acked now .«next_timeout» ≤ saturatingAdd now updateInterval
   unfolding handleTimeout updateEstimate withRate saturatingAdd
   timeout-timeout =
-      either (λ (a : DelayController). a .«next_timeout» ≤ saturatingAdd now updateInterval) (trendlineHypothesisValid c now) (omega arith) (omega (arith, wait-le c))
+      chosen (λ (a : DelayController). a .«next_timeout» ≤ saturatingAdd now updateInterval) (trendlineHypothesisValid c now) (omega arith) (omega (arith, wait-le c))
 
 -- ---- the smoothed round trip
 abbrev pub AtMost : ℕ → OptionDuration → Type 0
@@ -105,17 +103,23 @@ AtMost n (Duration.Some d) = d ≤ n
 pub longest-most : {n rtt : ℕ} (d : OptionDuration) → AtMost n d → rtt ≤ n → AtMost n (longest d rtt)
 unfolding longest
 longest-most Duration.None h k = k
-longest-most {n} {rtt} (Duration.Some d) h k = either (λ x. x ≤ n) (ltb d rtt) k h
+longest-most {n} {rtt} (Duration.Some d) h k = chosen (λ x. x ≤ n) (ltb d rtt) k h
 
 pub max-rtt-most : (n : ℕ) (sends receives : List ℕ) → Instants n sends receives → AtMost n (maxRtt sends receives)
 max-rtt-most n sends receives h = fold-keeps (AtMost n) (λ d s l g i j. longest-most d g (omega arith)) sends receives h tt
 
 -- 10 ^ 9 seconds
-abbrev pub mostRtt : Float
-mostRtt = lit 0x41cd_cd65_0000_0000
+abbrev pub mostRoundTrip : Float
+mostRoundTrip = lit 0x41cd_cd65_0000_0000
+
+pub mostRoundTrip-is : mostRoundTrip ≡ decimal (10 ^ 9) 1
+mostRoundTrip-is = unfold floats in refl
+
+trips : Average.Limits rttSmoothingFactor mostRoundTrip
+trips = record { factor-in = in-closed (unfold floats in tt); limit-in = in-closed (unfold floats in tt); limit-fits = ofBits-fits binary64 _ }
 
 abbrev pub KeptRtt : MovingAverage → Type 0
-KeptRtt m = Average.Kept rttSmoothingFactor mostRtt m
+KeptRtt m = Average.Kept rttSmoothingFactor mostRoundTrip m
 
 secs-fits : (n : ℕ) → T (fits binary64 (asSecsF64 n))
 unfolding asSecsF64
@@ -126,7 +130,7 @@ pub update-rtt-kept : {m : MovingAverage} (d : OptionDuration) → AtMost (10 ^ 
 unfolding updateRtt
 update-rtt-kept Duration.None h k = k
 update-rtt-kept (Duration.Some d) h k =
-    Average.update-kept Average.round-trips (in-wider (secs-in d (10 ^ 18) h (omega arith)) (unfold asSecsF64 floats in tt)) (secs-fits d) k
+    Average.update-kept trips (in-wider (secs-in d (10 ^ 18) h (omega arith)) (unfold asSecsF64 floats in tt)) (secs-fits d) k
 
 pub update-kept : (c : DelayController) (sends remotes receives : List ℕ) (acked probe : OptionBitrate) (now : ℕ) → Instants (10 ^ 18) sends receives → KeptRtt (c .«smoothed_rtt»)
     → KeptRtt (update c sends remotes receives acked probe now .«smoothed_rtt»)

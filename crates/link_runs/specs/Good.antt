@@ -18,7 +18,7 @@ use Rattle.average.specs.Laws.{AverageIn}
 use Rattle.average.specs.Laws as Average
 use Rattle.average.specs.declared.OptionF64.{OptionF64}
 use Rattle.average.specs.declared.OptionF64.the-variants as F64
-use Rattle.bandwidth.specs.Bandwidth.{mostRate}
+use Rattle.bandwidth.specs.Bandwidth.{minEstimate, maxEstimate, mostRate}
 use Rattle.bandwidth.specs.declared.Bitrate.{Bitrate}
 use Rattle.bandwidth.specs.declared.OptionBitrate.{OptionBitrate}
 use Rattle.bandwidth.specs.declared.OptionBitrate.the-variants as Rate
@@ -31,8 +31,8 @@ use Rattle.rate_control.specs.Laws as Rates
 use Rattle.rate_control.specs.Laws.{InstantAtMost, DurationAtMost}
 use Rattle.rate_control.specs.declared.RateControl as R
 use Rattle.control.specs.Control as Control
-use Rattle.control.specs.Control.{detector, getSmoothedRtt, handleTimeout, maxEstimate, minEstimate, rateAfter, rttOf, rttSmoothingFactor, trendlineHypothesisValid, updateEstimate, updateInterval, withPackets, withRate}
-use Rattle.control.specs.Laws.{KeptRtt, mostRtt, timeout-none, timeout-report, timeout-timeout, update-kept}
+use Rattle.control.specs.Control.{detector, getSmoothedRtt, handleTimeout, rateAfter, rttOf, rttSmoothingFactor, trendlineHypothesisValid, updateEstimate, updateInterval, withPackets, withRate}
+use Rattle.control.specs.Laws.{KeptRtt, mostRoundTrip, timeout-none, timeout-report, timeout-timeout, update-kept}
 use Rattle.control.specs.declared.DelayController.{DelayController}
 use Rattle.receive_order.specs.Lists.{All}
 use Rattle.questions.specs.Questions.{Report, allAtMost, firstNo, inOrder, instantsIn, momentIn, mostInstant, ofOpening, ofReport, ofTimeout, ordered, probeIn, windowIn}
@@ -62,11 +62,11 @@ pub record Good (l : Link) : Type 0 where
   pub report : InstantAtMost mostInstant (l .control .«last_twcc_report»)
 
 -- ---- the rate control
-rtt-most : (a : OptionF64) → AverageIn mostRtt a → DurationAtMost mostInstant (rttOf a)
+rtt-most : (a : OptionF64) → AverageIn mostRoundTrip a → DurationAtMost mostInstant (rttOf a)
 rtt-most F64.None h = tt
 rtt-most (F64.Some a) h =
-    let e : fromSecsF64 mostRtt ≡ 10 ^ 18 = unfold fromSecsF64 floats in refl in
-    omega (arith, ns-mono a mostRtt (h .0 .high))
+    let e : fromSecsF64 mostRoundTrip ≡ 10 ^ 18 = unfold fromSecsF64 floats in refl in
+    omega (arith, ns-mono a mostRoundTrip (h .0 .high))
 
 abbrev pub FiniteIfAny : OptionBitrate → Type 0
 FiniteIfAny Rate.None = Unit {0}
@@ -202,7 +202,7 @@ new-good start initial window y =
       acked = Acknowledged.new-good initial window (window-valid initial (w .0)) (window-valid window (w .1));
       packets = Packets.new-good;
       rate = record { sound = Rates.new-sound start (in-wider i (unfold floats in tt)); kept = Rates.new-kept start minEstimate maxEstimate mostInstant mostInstant };
-      roundTrip = Average.new-kept rttSmoothingFactor mostRtt;
+      roundTrip = Average.new-kept rttSmoothingFactor mostRoundTrip;
       timeout = omega arith;
       report = tt;
     }

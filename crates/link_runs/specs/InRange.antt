@@ -50,7 +50,11 @@ use Rattle.trendline.specs.declared.TrendlineEstimator.{TrendlineEstimator}
 use Rattle.rate_control.specs.RateControl.{observedBitRateSmoothingFactor}
 use Rattle.rate_control.specs.Laws.{InstantAtMost, DurationAtMost}
 use Rattle.rate_control.specs.declared.RateControl.{RateControl}
-use Rattle.control.specs.Control.{maxEstimate, minEstimate, rttSmoothingFactor}
+use Rattle.control.specs.Control.{rttSmoothingFactor}
+use Rattle.control.specs.Laws.{mostRoundTrip}
+use Rattle.bandwidth.specs.Bandwidth.{minEstimate, maxEstimate, mostRate}
+use Rattle.trendline.specs.Trendline.{minThresholdMs, maxThresholdMs}
+use Rattle.float.specs.Float.{within}
 use Rattle.link_state.specs.State.{
   ackedIn,
   ackedRateIn,
@@ -66,21 +70,16 @@ use Rattle.link_state.specs.State.{
   historyIn,
   inRange,
   instantIn,
-  leastThreshold,
   most30,
   most31,
   mostNs,
   mostOveruse,
-  mostRate,
-  mostRoundTrip,
-  mostThreshold,
   mostTime,
   overuseIn,
   overuseTimeIn,
   rateControlIn,
   sumIn,
   trendlineIn,
-  within,
 }
 use Rattle.link_state.specs.declared.Link.{Link}
 use Rattle.questions.specs.Questions.{mostInstant, windowIn}
@@ -201,7 +200,7 @@ history-in h s d =
 delays-in : (d : Delays) → SoundDelays d → Within most31 (d .«smoothed_delay») → delaysIn d ≡ true
 unfolding delaysIn
 delays-in d s m =
-    let t : In leastThreshold mostThreshold (d .«delay_threshold») = in-wider (s .threshold) (unfold floats in tt) in
+    let t : In minThresholdMs maxThresholdMs (d .«delay_threshold») = in-wider (s .threshold) (unfold floats in tt) in
     rw (le-leb (d .«num_delay_variations») 1000 (s .count), within-is (s .accumulated), within-is m, within-is t, eq-refl (d .«previous_trend») (s .trend))
 
 time-in : (s : ℕ) (t : TimeDelta) → s ≤ mostSend → Anchored s t → overuseTimeIn t ≡ true
@@ -227,7 +226,7 @@ rate-control-in : (c : RateControl) → GoodRate c → rateControlIn c ≡ true
 unfolding rateControlIn
 rate-control-in c g =
     let r : In (minEstimate .0) (maxEstimate .0) (c .«estimated_bitrate» .0) = in-wider (g .sound .in-range) (unfold floats in tt) in
-    rw (g .sound .low-is, g .sound .high-is, eq-refl (minEstimate .0) (unfold floats in tt), eq-refl (maxEstimate .0) (unfold floats in tt), within-is r, average-in (c .«averaged_observed_bitrate») observedBitRateSmoothingFactor mostRate (unfold floats in tt) (g .kept .average-kept), instant-in (c .«last_estimate_update») (g .kept .last-at-most), duration-in (c .«last_rtt») (g .kept .rtt-at-most))
+    rw (g .sound .low-is, g .sound .high-is, eq-refl (minEstimate .0) (unfold floats in tt), eq-refl (maxEstimate .0) (unfold floats in tt), within-is r, average-in (c .«averaged_observed_bitrate») observedBitRateSmoothingFactor (mostRate .0) (unfold floats in tt) (g .kept .average-kept), instant-in (c .«last_estimate_update») (g .kept .last-at-most), duration-in (c .«last_rtt») (g .kept .rtt-at-most))
 
 -- ---- the link
 pub good-in-range : (l : Link) → Good l → inRange l ≡ true

@@ -51,7 +51,11 @@ use Rattle.rate_control.specs.RateControl.{observedBitRateSmoothingFactor}
 use Rattle.rate_control.specs.Laws as RateControl
 use Rattle.rate_control.specs.Laws.{InstantAtMost, DurationAtMost}
 use Rattle.rate_control.specs.declared.RateControl.{RateControl as RateControlState}
-use Rattle.control.specs.Control.{minEstimate, maxEstimate, rttSmoothingFactor}
+use Rattle.control.specs.Control.{rttSmoothingFactor}
+use Rattle.control.specs.Laws.{mostRoundTrip}
+use Rattle.bandwidth.specs.Bandwidth.{minEstimate, maxEstimate, mostRate}
+use Rattle.trendline.specs.Trendline.{minThresholdMs, maxThresholdMs}
+use Rattle.float.specs.Float.{within}
 use Rattle.questions.specs.Questions.{windowIn}
 use Rattle.link_state.specs.State.{
   ackedIn,
@@ -69,21 +73,16 @@ use Rattle.link_state.specs.State.{
   inRange,
   instantIn,
   leastAcked,
-  leastThreshold,
   most30,
   most31,
   mostNs,
   mostOveruse,
-  mostRate,
-  mostRoundTrip,
-  mostThreshold,
   mostTime,
   overuseIn,
   overuseTimeIn,
   rateControlIn,
   sumIn,
   trendlineIn,
-  within,
 }
 use Rattle.link_state.specs.declared.Link.{Link}
 
@@ -150,7 +149,7 @@ pub record RateInRange (c : RateControlState) : Type 0 where
   pub min-is : eq (c .«min_bitrate» .0) (minEstimate .0) ≡ true
   pub max-is : eq (c .«max_bitrate» .0) (maxEstimate .0) ≡ true
   pub estimate : In (nat 40000) (nat (10 ^ 10)) (c .«estimated_bitrate» .0)
-  pub average : AverageInRange observedBitRateSmoothingFactor mostRate (c .«averaged_observed_bitrate»)
+  pub average : AverageInRange observedBitRateSmoothingFactor (mostRate .0) (c .«averaged_observed_bitrate»)
   pub last-update : InstantAtMost mostNs (c .«last_estimate_update»)
   pub rtt : DurationAtMost mostNs (c .«last_rtt»)
 
@@ -296,7 +295,7 @@ delays d h = record {
   count = search (left, right, leb-true);
   accumulated = search (left, right, within-in);
   smoothed = in-wider (within-in {low = neg most31} {high = most31} (search (left, right))) (unfold floats in tt);
-  threshold = in-wider (within-in {low = leastThreshold} {high = mostThreshold} (search (left, right))) (unfold floats in tt);
+  threshold = in-wider (within-in {low = minThresholdMs} {high = maxThresholdMs} (search (left, right))) (unfold floats in tt);
   trend = no-nan (d .«previous_trend») (search (left, right));
 }
   where
