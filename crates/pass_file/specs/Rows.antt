@@ -73,7 +73,7 @@ unfolding shown acceptedWith timedOut Control.handleTimeout Control.trendlineHyp
 first-line = refl
 
 second-line : shown 3 (acceptedWith (updated second probed)) ≡ line 3 0 (code "N") 0x413e848000000000 1035000000
-unfolding shown acceptedWith timedOut updatedBy receiveOrder entries Control.handleTimeout Control.trendlineHypothesisValid Control.withRate Control.new Control.update Control.updateEstimate Control.withPackets Control.addAll RateControl.setProbeResult RateControl.updateEstimate RateControl.withEstimate Bandwidth.clamp Float.helpers saturatingAdd toBits
+unfolding shown acceptedWith timedOut updatedBy receiveOrder entries Control.handleTimeout Control.trendlineHypothesisValid Control.withRate Control.new Control.update Control.updateEstimate Control.withPackets Control.fold RateControl.setProbeResult RateControl.updateEstimate RateControl.withEstimate Bandwidth.clamp Float.helpers saturatingAdd toBits
 second-line = refl
 
 two-lines : (l : Link) (c d : Numbered) {o p : Outcome} → call l (c .call) ≡ o → call (o .link) (d .call) ≡ p
