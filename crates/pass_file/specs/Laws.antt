@@ -34,7 +34,7 @@ use Rattle.link_runs.specs.Statement.{Call, call, report, timeout, run}
 use Rattle.link_runs.specs.Good.{Good, call-good, run-good, opening-good}
 use Rattle.link_runs.specs.Demand3.{demand-3}
 use Rattle.pass_records.specs.PassRecords as Records
-use Rattle.pass_records.specs.PassRecords.{chain, judge, kind, mostRecords, number, recordCount}
+use Rattle.pass_records.specs.PassRecords.{chain, judge, kind, mostRecords, number, recordAt, recordCount}
 use Rattle.pass_records.specs.Laws.{Rising, linked-file}
 use Rattle.pass_records.specs.declared.Judged.{Judged}
 use Rattle.pass_records.specs.declared.Judged.the-variants.{Linked, BadLength, BadKind, BadNext}
@@ -128,13 +128,13 @@ without-call h = record { numbers = h .numbers; few = omega arith }
 with-call : {n : ℕ} {c : Numbered} {cs : List Numbered} → c .number ≤ mostRecords → CallsOf n cs → CallsOf (suc n) (c ∷ cs)
 with-call i h = record { numbers = (i, h .numbers); few = omega arith }
 
-calls-few : (file waiting ks : List ℕ) (low last : ℕ) → last ≤ mostRecords → Rising low last ks → CallsOf (length ks) (calls file waiting ks)
+calls-few : (file : List ℕ) (waiting : List (List ℕ)) (ks : List ℕ) (low last : ℕ) → last ≤ mostRecords → Rising low last ks → CallsOf (length ks) (calls file waiting ks)
 unfolding calls
 calls-few file waiting [] low last m r = record { numbers = tt; few = omega arith }
 calls-few file waiting (k ∷ ks) low last m r =
     either
     (CallsOf (suc (length ks)))
-    (eqb (kind file k) Records.packet)
+    (eqb (kind (recordAt file k)) Records.packet)
     (without-call (calls-few file _ ks k last m (r .1 .1)))
     (with-call (omega arith) (calls-few file _ ks k last m (r .1 .1)))
 

@@ -20,6 +20,7 @@ use Rattle.link.specs.Link.{Outcome, Report, acceptedWith, every, instantsIn, l
 use Rattle.link.specs.Laws.{report-in-range, report-yes, timeout-in-range, timeout-yes}
 use Rattle.link_runs.specs.Statement.{call, report, timeout}
 use Rattle.link_runs.specs.InRange.{reached-in-range}
+use Rattle.pass_records.specs.PassRecords.{recordAt}
 use Rattle.pass_records.specs.Rows.{example, example-linked, example-chain}
 use Rattle.listing_line.specs.ListingLine.{line}
 use Rattle.listing_line.specs.Rows.{bytes, record-1, record-3}
@@ -37,7 +38,7 @@ abbrev three : Numbered
 three = record { number = 3; call = report probed }
 
 example-calls : fileCalls example ≡ one ∷ three ∷ []
-unfolding calls le
+unfolding calls recordAt le
 example-calls = rw example-chain
 
 -- the link after record 1

@@ -13,7 +13,6 @@ use bandwidth::Bitrate;
 use bandwidth::OptionBitrate;
 use control::DelayController;
 use link_state::Link;
-use pass_records::Following;
 use pass_records::Judged;
 
 // The least output that a file's listing is written to.
@@ -55,11 +54,11 @@ fn open() -> Link
     Link { acked, control }
 }
 
-fn probe(file: &[u8], k: usize) -> OptionBitrate
-    ensures { λ r. ⌜ r ≡ PassFile.probe (now (file .entry)) k ⌝ }
+fn probe(bytes: &[u8]) -> OptionBitrate
+    ensures { λ r. ⌜ r ≡ PassFile.probe (now (bytes .entry)) ⌝ }
 {
-    if pass_records::flag(file, k) == 1 {
-        let bits = pass_records::probe_bits(file, k);
+    if pass_records::flag(bytes) == 1 {
+        let bits = pass_records::probe_bits(bytes);
         return OptionBitrate::Some(Bitrate(float_bits::from_bits(bits)));
     }
     OptionBitrate::None
@@ -178,17 +177,17 @@ fn wait(
 ) -> usize
     requires { ⌜ n ≤ PassFile.mostWaiting ⌝ }
     ensures { λ r. ⌜ r ≡ PassFile.oneMore n ⌝ }
-    ensures { λ _. ⌜ now (sequences .exit) ≡ set (now (sequences .entry)) n (Records.sequence (now (bytes .entry)) 1) ⌝ }
-    ensures { λ _. ⌜ now (sizes .exit) ≡ set (now (sizes .entry)) n (Records.size (now (bytes .entry)) 1) ⌝ }
-    ensures { λ _. ⌜ now (sends .exit) ≡ set (now (sends .entry)) n (Records.send (now (bytes .entry)) 1) ⌝ }
-    ensures { λ _. ⌜ now (remotes .exit) ≡ set (now (remotes .entry)) n (Records.remote (now (bytes .entry)) 1) ⌝ }
-    ensures { λ _. ⌜ now (receives .exit) ≡ set (now (receives .entry)) n (Records.receive (now (bytes .entry)) 1) ⌝ }
+    ensures { λ _. ⌜ now (sequences .exit) ≡ set (now (sequences .entry)) n (Records.sequence (now (bytes .entry))) ⌝ }
+    ensures { λ _. ⌜ now (sizes .exit) ≡ set (now (sizes .entry)) n (Records.size (now (bytes .entry))) ⌝ }
+    ensures { λ _. ⌜ now (sends .exit) ≡ set (now (sends .entry)) n (Records.send (now (bytes .entry))) ⌝ }
+    ensures { λ _. ⌜ now (remotes .exit) ≡ set (now (remotes .entry)) n (Records.remote (now (bytes .entry))) ⌝ }
+    ensures { λ _. ⌜ now (receives .exit) ≡ set (now (receives .entry)) n (Records.receive (now (bytes .entry))) ⌝ }
 {
-    put(sequences, n, pass_records::sequence(bytes, 1));
-    put(sizes, n, pass_records::size(bytes, 1) as u64);
-    put(sends, n, pass_records::send(bytes, 1));
-    put(remotes, n, pass_records::remote(bytes, 1));
-    put(receives, n, pass_records::receive(bytes, 1));
+    put(sequences, n, pass_records::sequence(bytes));
+    put(sizes, n, pass_records::size(bytes) as u64);
+    put(sends, n, pass_records::send(bytes));
+    put(remotes, n, pass_records::remote(bytes));
+    put(receives, n, pass_records::receive(bytes));
     if n < MOST_WAITING {
         return n + 1;
     }
@@ -196,11 +195,10 @@ fn wait(
 }
 
 // ---- the listing
-// The lines along the chain of a file of `last` records. A link that a run reaches is in range, so question 1 is not put; its two parts are kept
+// The lines along the chain of a linked file. A link that a run reaches is in range, so question 1 is not put; its two parts are kept
 // apart, so that a call copies only what it changes.
 fn list_chain(
     file: &[u8],
-    last: usize,
     out: &mut [u8],
     sequences: &mut [u64],
     sizes: &mut [u64],
@@ -209,7 +207,7 @@ fn list_chain(
     receives: &mut [u64],
     link: Link,
 ) -> usize
-    requires { ⌜ (Records.judge (now file) ≡ Linked) × («last» ≡ Records.recordCount (now file)) × (PassFile.leastOutput ≤ length (now out)) × (link ≡ PassFile.first) ⌝ }
+    requires { ⌜ (Records.judge (now file) ≡ Linked) × (PassFile.leastOutput ≤ length (now out)) × (link ≡ PassFile.first) ⌝ }
     requires { ⌜ PassFile.KeptLengths (now sequences) (now sizes) (now sends) (now remotes) (now receives) ⌝ }
     ensures { λ r. ⌜ Wrote (now (out .entry)) 0 (PassFile.listing (now (file .entry))) (now (out .exit)) r ⌝ }
 {
@@ -219,15 +217,13 @@ fn list_chain(
     let mut at = 0;
     let mut k = 1;
     loop {
-        let start = (k - 1) * pass_records::RECORD_BYTES;
-        let end = start + pass_records::RECORD_BYTES;
-        let bytes = &file[start..end];
-        let kind = pass_records::kind(bytes, 1);
-        let now = pass_records::receive(bytes, 1);
+        let bytes = pass_records::record_at(file, k);
+        let kind = pass_records::kind(bytes);
+        let now = pass_records::receive(bytes);
         if kind == pass_records::PACKET {
             n = wait(bytes, n, sequences, sizes, sends, remotes, receives);
         } else if kind == pass_records::REPORT {
-            let probe = probe(bytes, 1);
+            let probe = probe(bytes);
             let judged = judge_report(
                 acked,
                 n,
@@ -275,9 +271,10 @@ fn list_chain(
                 control.poll_timeout(),
             );
         }
-        let Following::Next(next) = pass_records::successor(bytes, last, k) else {
+        let next = pass_records::next(bytes) as usize;
+        if next == 0 {
             return at;
-        };
+        }
         k = next;
     }
 }
@@ -292,10 +289,8 @@ fn list_linked(file: &[u8], out: &mut [u8]) -> usize
     let mut sends = [0u64; 1025];
     let mut remotes = [0u64; 1025];
     let mut receives = [0u64; 1025];
-    let last = pass_records::record_count(file);
     list_chain(
         file,
-        last,
         out,
         &mut sequences,
         &mut sizes,
