@@ -106,20 +106,17 @@ newAccumulated origin previous current delta =
     }
 
 -- the first packet starts a group; one that needs a new group closes the current one
-abbrev pub accumulateTo : OptionGroup → OptionGroup → ℕ → ℕ → ℕ → Accumulated
-accumulateTo G.None previous origin send remote = newAccumulated origin previous (new send remote) Delta.None
-accumulateTo (G.Some current) previous origin send remote =
+unfoldable pub accumulateRounded : OptionGroup → OptionGroup → ℕ → ℕ → ℕ → Accumulated
+accumulateRounded G.None previous origin send remote = newAccumulated origin previous (new send remote) Delta.None
+accumulateRounded (G.Some current) previous origin send remote =
     let added = addPacket current send remote in
     cond (added .«need_new_group»)
     (newAccumulated origin (G.Some current) (new send remote) (delta previous current))
     (newAccumulated origin previous (added .group) Delta.None)
-
-unfoldable pub accumulateRounded : ArrivalGroupAccumulator → ℕ → ℕ → ℕ → Accumulated
-accumulateRounded a origin send remote = accumulateTo (a .«current_group») (a .«previous_group») origin send remote
 
 -- a packet sent before the first one joins no group
 unfoldable pub accumulatePacket : ArrivalGroupAccumulator → ℕ → ℕ → Accumulated
 accumulatePacket a send remote =
     let origin = instantOr (a .«send_time_origin») send in
     cond (ltb send origin) (record { accumulator = a; delta = Delta.None })
-    (accumulateRounded a origin (rounded origin (send - origin)) remote)
+    (accumulateRounded (a .«current_group») (a .«previous_group») origin (rounded origin (send - origin)) remote)

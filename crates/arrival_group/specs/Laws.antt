@@ -20,7 +20,6 @@ use Rattle.arrival_group.specs.declared.Accumulated.{Accumulated}
 use Rattle.arrival_group.specs.ArrivalGroup.{
   accumulatePacket,
   accumulateRounded,
-  accumulateTo,
   addAs,
   addPacket,
   belongsToGroup,
@@ -109,10 +108,10 @@ module _ {S R origin send remote : ℕ} (o : origin ≤ S) (h : send ≤ S + 500
   new-bounded : Bounded S R (new send remote)
   new-bounded = record { first-send = h; first-remote = k; last-send = h; last-remote = k }
 
-  to-sound : (current previous : OptionGroup) → BoundedIfAny S R current → BoundedIfAny S R previous → Sound S R (accumulateTo current previous origin send remote .accumulator)
-  unfolding addPacket
-  to-sound G.None previous w v = record { origin = o; previous = v; current = new-bounded }
-  to-sound (G.Some g) previous w v =
+  rounded-sound : (current previous : OptionGroup) → BoundedIfAny S R current → BoundedIfAny S R previous → Sound S R (accumulateRounded current previous origin send remote .accumulator)
+  unfolding accumulateRounded addPacket
+  rounded-sound G.None previous w v = record { origin = o; previous = v; current = new-bounded }
+  rounded-sound (G.Some g) previous w v =
       either (λ (x : Accumulated). Sound S R (x .accumulator)) (addPacket g send remote .«need_new_group»)
       (λ e. record { origin = o; previous = w; current = new-bounded })
       (λ e. record { origin = o; previous = v; current = added-bounded (belongsToGroup g send remote) w })
@@ -121,11 +120,11 @@ pub new-sound : (S R : ℕ) → Sound S R newAccumulator
 new-sound S R = record { origin = omega arith; previous = tt; current = tt }
 
 pub accumulate-sound : {S R send remote : ℕ} (a : ArrivalGroupAccumulator) → S ≤ 2 ^ 63 → send ≤ S → remote ≤ R → Sound S R a → Sound S R (accumulatePacket a send remote .accumulator)
-unfolding accumulatePacket accumulateRounded
+unfolding accumulatePacket
 accumulate-sound {S} {R} {send} {remote} a x h k s =
     let origin = instantOr (a .«send_time_origin») send in
     either (λ (y : Accumulated). Sound S R (y .accumulator)) (ltb send origin) (λ e. s)
     (λ e.
     let l = ltb-false send origin e in
     let n = rounded-nearest origin (send - origin) (omega arith) in
-    to-sound {origin = origin} (omega arith) (omega (arith, n .high)) k (a .«current_group») (a .«previous_group») (s .current) (s .previous))
+    rounded-sound {origin = origin} (omega arith) (omega (arith, n .high)) k (a .«current_group») (a .«previous_group») (s .current) (s .previous))

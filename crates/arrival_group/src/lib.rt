@@ -255,7 +255,7 @@ impl ArrivalGroupAccumulator {
 
     // A packet whose send instant is rounded.
     fn accumulate_rounded(self, origin: u64, send: u64, remote: u64) -> Accumulated
-        ensures { λ r. ⌜ r ≡ Group.accumulateRounded self origin send remote ⌝ }
+        ensures { λ r. ⌜ r ≡ Group.accumulateRounded (self .«current_group») (self .«previous_group») origin send remote ⌝ }
     {
         let previous = self.previous_group;
         let current_group = self.current_group;

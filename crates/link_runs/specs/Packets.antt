@@ -19,7 +19,7 @@ use Rattle.time.specs.Time.{difference, instantOr}
 use Rattle.time.specs.declared.TimeDelta.{TimeDelta}
 use Rattle.bandwidth.specs.declared.BandwidthUsage.{BandwidthUsage}
 use Rattle.arrival_group.specs.ArrivalGroup as Group
-use Rattle.arrival_group.specs.ArrivalGroup.{accumulatePacket, accumulateRounded, accumulateTo, delta, deltaBetween}
+use Rattle.arrival_group.specs.ArrivalGroup.{accumulatePacket, accumulateRounded, delta, deltaBetween}
 use Rattle.arrival_group.specs.Laws as Groups
 use Rattle.arrival_group.specs.Laws.{Bounded, BoundedIfAny, Measured, accumulate-sound, measured}
 use Rattle.arrival_group.specs.declared.ArrivalGroup.{ArrivalGroup}
@@ -217,13 +217,14 @@ GoodAfter t x = GoodTrendline (x .accumulator .«previous_group») (observe (x .
 
 -- it closes the current group, or leaves the previous one
 rounded-good : (current previous : OptionGroup) (t : TrendlineEstimator) (origin send remote : ℕ) → BoundedIfAny mostInstant mostInstant current → BoundedIfAny mostInstant mostInstant previous
-    → GoodTrendline previous t → GoodAfter t (accumulateTo current previous origin send remote)
+    → GoodTrendline previous t → GoodAfter t (accumulateRounded current previous origin send remote)
+unfolding accumulateRounded
 rounded-good G.None previous t origin send remote h k g = g
 rounded-good (G.Some c) previous t origin send remote h k g =
     cases (GoodAfter t) (Group.addPacket c send remote .«need_new_group») (λ e. closed-good previous c t k h g) (λ e. g)
 
 packet-good : (d : DelayDetector) (send remote : ℕ) → GoodPackets d → send ≤ mostInstant → remote ≤ mostInstant → GoodPackets (addPacket d send remote)
-unfolding accumulatePacket accumulateRounded
+unfolding accumulatePacket
 packet-good d send remote g h k =
     let a = d .«arrival_group_accumulator» in
     let t = d .«trendline_estimator» in
