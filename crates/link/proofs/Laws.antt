@@ -42,7 +42,7 @@ use Rattle.link.specs.Link.{
   timedOut,
   turnedDown,
 }
-use Rattle.link.specs.Laws.{judged-number, judged-taken}
+use Rattle.link.specs.Laws.{judged-number, judged-taken, outcome-refused}
 use Rattle.link.specs.declared.Judged.{Judged}
 
 -- what is left of a report's packets gives what all of them give
@@ -177,12 +177,7 @@ module _ (a : AckedBitrateEstimator) (r : Report) where
 -- ---- a timeout by its first no
 module _ (l : Link) (now : ℕ) where
   pub timed-refused : (q : Refusal) → number q ≡ firstNo (ofTimeout now) → refusedBy (number q) l ≡ outcomeUnless (firstNo (ofTimeout now)) l (timedOut l now)
-  unfolding outcomeUnless
-  timed-refused q e = rw (sym e) (go (number q) (number-above q))
-    where
-      go : (n : ℕ) → 0 < n → refusedBy n l ≡ outcomeUnless n l (timedOut l now)
-      go zero h = absurd (omega arith)
-      go (suc n) h = refl
+  timed-refused q e = rw (sym e) (sym (outcome-refused l (timedOut l now) (number q) (number-above q)))
 
   pub timed-taken : {rate : OptionBitrate} {control : DelayController} → 0 ≡ firstNo (ofTimeout now) → rate ≡ l .acked .estimate
       → control ≡ Control.handleTimeout (l .control) rate now → acceptedWith (record { acked = l .acked; control = control }) ≡ outcomeUnless (firstNo (ofTimeout now)) l (timedOut l now)

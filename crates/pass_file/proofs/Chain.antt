@@ -1,6 +1,6 @@
 -- What the proofs of the listing cite: the packets that are kept, the calls that they make, and the lines that are left along the chain.
 use mathlib.Core.Path.{_≡_, refl, sym, ap, subst, _∙_}
-use Prim.Native.Nat.{ℕ, suc, _+_, _-_, _≤_, _<_, min}
+use Prim.Native.Nat.{ℕ, zero, suc, _+_, _-_, _≤_, _<_, min}
 use mathlib.Core.Bool.{Bool, true, false, cond, and-false}
 use mathlib.Core.List.{List, [], _∷_, _++_, map, map-append}
 use native.Mathlib.Nat.{sub-zero}
@@ -10,18 +10,19 @@ use lib.ListN.{length, set, take, drop, length-append, length-set, length-take, 
 use lib.Seq.{sets, length-sets, length-take-le, sets-eq, set-out, take-all, take-append-le, take-nil, take-suc-set}
 use borrow.Author.Tests.{eq-eqb, ne-eqb, lt-leb, leb-true, leb-false, ltb-true, ltb-false}
 use Rattle.acked_bitrate_estimator.specs.declared.AckedBitrateEstimator.{AckedBitrateEstimator}
-use Rattle.trendline.specs.Cases.{cases}
+use Rattle.bool_laws.specs.Bools.{cases}
 use Rattle.bandwidth.specs.declared.BandwidthUsage.{BandwidthUsage}
 use Rattle.bandwidth.specs.declared.Bitrate.{Bitrate}
 use Rattle.bandwidth.specs.declared.OptionBitrate.{OptionBitrate}
 use Rattle.control.specs.Control as Control
 use Rattle.control.specs.declared.DelayController.{DelayController}
 use Rattle.receive_order.specs.ReceiveOrder.{mostPackets}
+use Rattle.questions.specs.Questions.{Report, firstNo, listsIn, ofTimeout, report-of}
 use Rattle.link_state.specs.State.{inRange}
 use Rattle.link_state.specs.declared.Link.{Link}
 use Rattle.link.specs.Link as L
-use Rattle.link.specs.Link.{Outcome, Report, acceptedWith, listsIn, momentIn, refusal, report-of, timedOut}
-use Rattle.link.specs.Laws.{report-4, report-in-range, timeout-7, timeout-in-range, timeout-yes}
+use Rattle.link.specs.Link.{Outcome, acceptedWith, outcomeUnless, refusal, refusedBy, timedOut}
+use Rattle.link.specs.Laws.{outcome-refused, report-4, timeout-from-7}
 use Rattle.link_runs.specs.Statement.{Call, call, report, timeout}
 use Rattle.link_runs.specs.Good.{Good, call-good}
 use Rattle.link_runs.specs.InRange.{good-in-range}
@@ -31,7 +32,7 @@ use Rattle.pass_records.specs.PassRecords.{chainFrom, kind, next, receive, reco
 use Rattle.listing_line.specs.ListingLine.{Wrote, placeAfter, putLine}
 use Rattle.listing_line.specs.Laws.{put-room, sets-append}
 use Rattle.pass_file.specs.PassFile.{KeptLengths, callAt, callOf, calls, first, lineOf, lineWith, lines, listing, mostWaiting, oneMore, probe, shown}
-use Rattle.pass_file.specs.Judged.{JudgesReport, linkOf, reportOfFirst, timeoutNumber}
+use Rattle.pass_file.specs.Judged.{JudgesReport, linkOf, reportOfFirst}
 use Rattle.pass_file.specs.Laws.{first-good}
 
 -- ---- the text that is left
@@ -124,7 +125,7 @@ too-many sequences sizes sends remotes receives h = rw (lt-leb (length sequences
 -- two reports with too many packets are refused alike
 refused-alike : (l : Link) (r s : Report) → inRange l ≡ true → mostPackets < length (r .sequences) → mostPackets < length (s .sequences) → L.report l r ≡ L.report l s
 refused-alike l r s y1 h i =
-    sym (report-in-range l r y1) ∙ report-4 l r (too-many _ _ _ _ _ h) ∙ sym (report-4 l s (too-many _ _ _ _ _ i)) ∙ report-in-range l s y1
+    report-4 l r y1 (too-many _ _ _ _ _ h) ∙ sym (report-4 l s y1 (too-many _ _ _ _ _ i))
 
 -- the packets that are not kept change no answer
 kept-enough : (l : Link) → inRange l ≡ true → (bytes : List ℕ) (waiting : List (List ℕ)) → call l (callAt bytes (take mostWaiting waiting)) ≡ call l (callAt bytes waiting)
@@ -270,13 +271,9 @@ module _ {file old ks out sequences sizes sends remotes receives : List ℕ} {li
         })
 
 -- ---- what the two kinds of calls give
-moment-yes : (t : Bool) → _≡_ {A = ℕ} (cond t 0 7) 0 → t ≡ true
-moment-yes true e = refl
-moment-yes false e = absurd (omega arith)
-
-moment-no : (t : Bool) → (_≡_ {A = ℕ} (cond t 0 7) 0 → ⊥) → t ≡ false
-moment-no true h = absurd (h refl)
-moment-no false h = refl
+above : (n : ℕ) → (n ≡ 0 → ⊥) → 0 < n
+above zero z = absurd (z refl)
+above (suc n) z = omega arith
 
 module _ (bytes sequences sizes sends remotes receives : List ℕ) (n : ℕ) (acked : AckedBitrateEstimator) (control : DelayController) (y1 : inRange (linkOf acked control) ≡ true) where
   abbrev callHere : Call
@@ -285,8 +282,8 @@ module _ (bytes sequences sizes sends remotes receives : List ℕ) (n : ℕ) (ac
   abbrev reportHere : Report
   reportHere = reportOfFirst n sequences sizes sends remotes receives (probe bytes) (receive bytes)
 
-  the-report : kind bytes ≡ Records.report → L.reportInRange (linkOf acked control) reportHere ≡ call (linkOf acked control) callHere
-  the-report h = rw (eq-eqb (kind bytes) Records.report h, sub-zero n) (report-in-range (linkOf acked control) reportHere y1)
+  the-report : kind bytes ≡ Records.report → L.report (linkOf acked control) reportHere ≡ call (linkOf acked control) callHere
+  the-report h = rw (eq-eqb (kind bytes) Records.report h, sub-zero n)
 
   -- a report that is accepted, and one that is not
   module _ (h : kind bytes ≡ Records.report) {p : OptionBitrate} {t : ℕ} (ep : p ≡ probe bytes) (et : t ≡ receive bytes) {number : ℕ} {after : AckedBitrateEstimator} (sends₁ remotes₁ receives₁ : List ℕ)
@@ -298,29 +295,24 @@ module _ (bytes sequences sizes sends remotes receives : List ℕ) (n : ℕ) (ac
         → control₁ ≡ Control.update control (take (n - 0) sends₁) (take (n - 0) remotes₁) (take (n - 0) receives₁) rate p t
         → Gives (call (linkOf acked control) callHere) number (linkOf after control₁)
     unfolding acceptedWith
-    report-accepted z er e = rw (← the-report h, judged-here .accepts z control, e, er, ep, et, sub-zero n, z) (record { number-is = refl; link-is = refl })
+    report-accepted z er e = rw (← the-report h, judged-here .accepts z control y1, e, er, ep, et, sub-zero n, z) (record { number-is = refl; link-is = refl })
 
     pub report-refused : (number ≡ 0 → ⊥) → Gives (call (linkOf acked control) callHere) number (linkOf after control)
-    report-refused z = rw (← the-report h, judged-here .refuses z .1 control, judged-here .refuses z .0) (record { number-is = refl; link-is = refl })
+    report-refused z = rw (← the-report h, judged-here .refuses z .1 control y1, judged-here .refuses z .0) (record { number-is = refl; link-is = refl })
 
   -- a timeout
   module _ (h : kind bytes ≡ Records.report → ⊥) where
-    the-timeout : L.timeoutInRange (linkOf acked control) (receive bytes) ≡ call (linkOf acked control) callHere
-    the-timeout = rw (ne-eqb (kind bytes) Records.report h) (timeout-in-range (linkOf acked control) (receive bytes) y1)
+    module _ {t : ℕ} (et : t ≡ receive bytes) {number : ℕ} (e : number ≡ firstNo (ofTimeout t)) where
+      the-timeout : call (linkOf acked control) callHere ≡ outcomeUnless number (linkOf acked control) (timedOut (linkOf acked control) (receive bytes))
+      the-timeout = rw (ne-eqb (kind bytes) Records.report h, e, et) (timeout-from-7 (linkOf acked control) (receive bytes) y1)
 
-    module _ {t : ℕ} (et : t ≡ receive bytes) {number : ℕ} (e : number ≡ timeoutNumber t) where
       pub timeout-accepted : {rate : OptionBitrate} {control₁ : DelayController} → number ≡ 0 → rate ≡ acked .estimate → control₁ ≡ Control.handleTimeout control rate t
           → Gives (call (linkOf acked control) callHere) number (linkOf acked control₁)
-      unfolding acceptedWith timedOut
-      timeout-accepted z er f =
-          rw (← the-timeout, timeout-yes (linkOf acked control) (receive bytes) (moment-yes (momentIn (receive bytes)) (ap timeoutNumber (sym et) ∙ sym e ∙ z)), f, er, et, z)
-          (record { number-is = refl; link-is = refl })
+      unfolding acceptedWith timedOut outcomeUnless
+      timeout-accepted z er f = rw (the-timeout, f, er, et, z) (record { number-is = refl; link-is = refl })
 
       pub timeout-refused : (number ≡ 0 → ⊥) → Gives (call (linkOf acked control) callHere) number (linkOf acked control)
-      timeout-refused z =
-          let m : momentIn (receive bytes) ≡ false = moment-no (momentIn (receive bytes)) (λ q. z (e ∙ ap timeoutNumber et ∙ q)) in
-          rw (← the-timeout, timeout-7 (linkOf acked control) (receive bytes) m, e, et, m)
-          (record { number-is = refl; link-is = refl })
+      timeout-refused z = rw (the-timeout, outcome-refused (linkOf acked control) (timedOut (linkOf acked control) (receive bytes)) number (above number z)) (record { number-is = refl; link-is = refl })
 
 -- ---- a call's turn
 -- the line, from what the controller says

@@ -14,9 +14,10 @@ use Rattle.bandwidth.specs.declared.Bitrate.{Bitrate}
 use Rattle.bandwidth.specs.declared.BandwidthUsage.{BandwidthUsage}
 use Rattle.bandwidth.specs.declared.BandwidthUsage.the-variants as Usage
 use Rattle.control.specs.declared.DelayController.{DelayController}
+use Rattle.questions.specs.Questions.{report-of}
 use Rattle.link_state.specs.declared.Link.{Link}
 use Rattle.link.specs.Link as L
-use Rattle.link.specs.Link.{Outcome, refusal, report-of}
+use Rattle.link.specs.Link.{Outcome, refusal}
 use Rattle.receive_order.specs.ReceiveOrder.{mostPackets}
 use Rattle.link_runs.specs.Statement.{Call, call, report, timeout}
 use Rattle.pass_records.specs.PassRecords as Records

@@ -6,7 +6,8 @@ ghost use Rattle.pass_records.specs.PassRecords as Records;
 ghost use Rattle.pass_records.specs.declared.Judged.the-variants.{Linked};
 ghost use Rattle.listing_line.specs.ListingLine.{putLine, placeAfter, Wrote};
 ghost use Rattle.pass_file.specs.PassFile as PassFile;
-ghost use Rattle.pass_file.specs.Judged.{JudgesReport, reportOfFirst, timeoutNumber};
+ghost use Rattle.questions.specs.Questions.{firstNo, ofTimeout};
+ghost use Rattle.pass_file.specs.Judged.{JudgesReport, reportOfFirst};
 use acked_bitrate_estimator::AckedBitrateEstimator;
 use bandwidth::BandwidthUsage;
 use bandwidth::Bitrate;
@@ -88,7 +89,9 @@ fn judge_report(
         (take n (now (sends .exit))) (take n (now (remotes .exit))) (take n (now (receives .exit))) ⌝ }
     ensures { λ _. ⌜ PassFile.KeptLengths (now (sequences .entry)) (now (sizes .exit)) (now (sends .exit)) (now (remotes .exit)) (now (receives .exit)) ⌝ }
 {
-    let form = link::report_form(
+    receive_order::put_in_order(n, sequences, sizes, sends, remotes, receives);
+    let judged = link::judge_report(
+        acked,
         &sequences[0..n],
         &sizes[0..n],
         &sends[0..n],
@@ -97,27 +100,20 @@ fn judge_report(
         probe,
         moment,
     );
-    let number = form.number();
-    if number != 0 {
-        return JudgedReport { number, acked };
+    let refusal = judged.refusal;
+    let acked = judged.acked;
+    JudgedReport {
+        number: refusal.number(),
+        acked,
     }
-    receive_order::put_in_order(n, sequences, sizes, sends, remotes, receives);
-    let done = link::acknowledge(acked, &remotes[0..n], &sizes[0..n]);
-    if done.sums_in {
-        let acked = done.acked;
-        return JudgedReport { number: 0, acked };
-    }
-    JudgedReport { number: 9, acked }
 }
 
 // Question 7 of a timeout: the number that it gets.
 fn judge_timeout(now: u64) -> u64
-    ensures { λ r. ⌜ r ≡ timeoutNumber now ⌝ }
+    ensures { λ r. ⌜ r ≡ firstNo (ofTimeout now) ⌝ }
 {
-    if link::moment_in(now) {
-        return 0;
-    }
-    7
+    let refusal = questions::timeout(now);
+    refusal.number()
 }
 
 // ---- its line
