@@ -171,7 +171,7 @@ listing-of-run file e =
     }
 
 -- ---- the answer to a file
-linked-if-zero : (j : Judged) (room : ℕ) → cond (eqb (number j) 0) (cond (leb leastOutput room) 0 13) (number j) ≡ 0 → j ≡ Linked
+pub linked-if-zero : (j : Judged) (room : ℕ) → cond (eqb (number j) 0) (cond (leb leastOutput room) 0 13) (number j) ≡ 0 → j ≡ Linked
 linked-if-zero Linked room e = refl
 linked-if-zero BadLength room e = cc
 linked-if-zero BadKind room e = cc

@@ -110,6 +110,11 @@ abbrev pub answerNumber : Answer → ℕ
 answerNumber (listed n) = 0
 answerNumber (turnedDown n) = n
 
+-- how many bytes its listing has; 0 where there is none
+abbrev pub answerBytes : Answer → ℕ
+answerBytes (listed n) = n
+answerBytes (turnedDown n) = 0
+
 abbrev pub answerUnless : ℕ → List ℕ → Answer
 answerUnless zero text = listed (length text)
 answerUnless (suc n) text = turnedDown (suc n)

@@ -44,6 +44,19 @@ impl Listed {
             Listed::ShortOutput => 13,
         }
     }
+
+    // How many bytes the listing has; 0 where there is none.
+    pub fn bytes(self) -> usize
+        ensures { λ r. ⌜ r ≡ PassFile.answerBytes (PassFile.answer self) ⌝ }
+    {
+        match self {
+            Listed::Listing(bytes) => bytes,
+            Listed::BadLength => 0,
+            Listed::BadKind => 0,
+            Listed::BadNext => 0,
+            Listed::ShortOutput => 0,
+        }
+    }
 }
 
 // ---- a call

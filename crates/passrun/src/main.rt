@@ -8,7 +8,6 @@ ghost use Rattle.passrun.specs.Passrun.{printed};
 use libc::STDERR_FILENO;
 use libc::STDIN_FILENO;
 use libc::STDOUT_FILENO;
-use pass_file::Listed;
 
 // The longest file.
 const MOST_BYTES: usize = pass_records::MOST_RECORDS * pass_records::RECORD_BYTES;
@@ -20,10 +19,11 @@ fn print(file: &[u8], out: &mut [u8]) -> usize
     ensures { λ r. ⌜ r ≤ leastOutput ⌝ }
 {
     let listed = pass_file::list(file, out);
-    if let Listed::Listing(bytes) = listed {
-        return bytes;
+    let number = listed.number();
+    if number != 0 {
+        return listing_line::put_number(out, 0, number);
     }
-    listing_line::put_number(out, 0, listed.number())
+    listed.bytes()
 }
 
 // One byte more than the longest file is read, so that a longer one is refused. A file that does not fill that has to end where the reading stopped: a read that
