@@ -5,8 +5,8 @@ use native.Mathlib.Omega.{arith}
 use mathlib.Core.Path.{_≡_, refl, ap, sym, _∙_}
 use mathlib.Core.Bool.{Bool, true, false, _&&_, and-assoc, and-true}
 use mathlib.Core.List.{List, [], _∷_}
-use lib.ListN.{length, length-drop, take, drop, drop-of-length-le, getD}
-use lib.Seq.{drop-cons, take-all}
+use lib.ListN.{length, take, drop, drop-of-length-le, getD}
+use lib.Seq.{drop-cons}
 use Rattle.bandwidth.specs.declared.Bitrate.{Bitrate}
 use Rattle.bandwidth.specs.declared.DataSize.{DataSize}
 use Rattle.bandwidth.specs.declared.OptionBitrate.{OptionBitrate}
@@ -62,13 +62,6 @@ module _ (a : AckedBitrateEstimator) (remotes sizes : List ℕ) (i : ℕ) (hr : 
   unfolding sumsIn
   sums-turn = rw (add-one, drop-cons remotes i 0, drop-cons sizes i 0)
 
--- a list from place i on, as a part that is lent
-abbrev rest : List ℕ → ℕ → List ℕ
-rest xs i = take (length xs - i) (drop i xs)
-
-rest-drop : (xs : List ℕ) (i : ℕ) → rest xs i ≡ drop i xs
-rest-drop xs i = take-all (length xs - i) (drop i xs) (omega (arith, length-drop i xs))
-
 no-sizes : (a : AckedBitrateEstimator) (remotes : List ℕ) → (acknowledge a remotes [] ≡ a) × (sumsIn a remotes [] ≡ true)
 unfolding acknowledge sumsIn
 no-sizes a [] = (refl, refl)
@@ -92,11 +85,6 @@ module _ {remotes sizes : List ℕ} {first a : AckedBitrateEstimator} {yet : Boo
 
   pub sizes-end : length sizes ≤ i → (a ≡ acknowledge first remotes sizes) × (yet ≡ sumsIn first remotes sizes)
   sizes-end h = end (rw (drop-of-length-le sizes h) (no-sizes a (drop i remotes) .0)) (rw (drop-of-length-le sizes h) (no-sizes a (drop i remotes) .1))
-
-  -- the rest of both lists at once, by an estimator that is the same
-  pub left-rest : {b after : AckedBitrateEstimator} {sums : Bool} → b ≡ a → after ≡ acknowledge b (rest remotes i) (rest sizes i) → sums ≡ sumsIn b (rest remotes i) (rest sizes i)
-      → (after ≡ acknowledge first remotes sizes) × ((yet && sums) ≡ sumsIn first remotes sizes)
-  left-rest e ea es = (rw (e, rest-drop remotes i, rest-drop sizes i) at ea ∙ left .acked, rw (rw (e, rest-drop remotes i, rest-drop sizes i) at es) (left .sums))
 
 -- what is gathered of a list by the order of receipt: room for all packets, and its front
 module _ (sequences sizes sends remotes receives : List ℕ) (y4 : listsIn sequences sizes sends remotes receives ≡ true)
