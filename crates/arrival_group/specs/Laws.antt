@@ -5,6 +5,7 @@ use mathlib.Core.Path.{_≡_, refl}
 use mathlib.Core.Bool.{Bool, true, false, cond}
 use lib.Dec.{ltb}
 use borrow.Author.Tests.{le-leb, ltb-false}
+use Rattle.bool_laws.specs.Bools.{cases}
 use Rattle.time.specs.Time.{limit, difference, exact, instantOr, saturatingAdd}
 use Rattle.time.specs.Laws.{since-exact}
 use Rattle.time.specs.declared.TimeDelta.{TimeDelta}
@@ -74,10 +75,6 @@ pub record Measured (S R : ℕ) (previous current : ArrivalGroup) (d : InterGrou
   pub last-bound : d .«last_remote_recv_time» ≤ R
 
 -- ---- proofs
-either : {A : Type 0} (P : A → Type 0) (t : Bool) {x y : A} → (t ≡ true → P x) → (t ≡ false → P y) → P (cond t x y)
-either P true f g = f refl
-either P false f g = g refl
-
 module _ {n a b : ℕ} (l : n ≤ limit) (h : a ≤ n) (k : b ≤ n) where
   between-difference : between a b ≡ difference a b
   unfolding exact
@@ -85,7 +82,7 @@ module _ {n a b : ℕ} (l : n ≤ limit) (h : a ≤ n) (k : b ≤ n) where
 
   between-bound : AtMost n (between a b)
   unfolding difference
-  between-bound = rw between-difference (either (AtMost n) (ltb a b) (λ e. omega arith) (λ e. omega arith))
+  between-bound = rw between-difference (cases (AtMost n) (ltb a b) (λ e. omega arith) (λ e. omega arith))
 
 pub measured : {S R : ℕ} {p g : ArrivalGroup} → S + 500000 ≤ limit → R ≤ limit → Bounded S R p → Bounded S R g → Measured S R p g (deltaBetween p g)
 measured x y v w =
@@ -112,7 +109,7 @@ module _ {S R origin send remote : ℕ} (o : origin ≤ S) (h : send ≤ S + 500
   unfolding accumulateRounded addPacket
   rounded-sound G.None previous w v = record { origin = o; previous = v; current = new-bounded }
   rounded-sound (G.Some g) previous w v =
-      either (λ (x : Accumulated). Sound S R (x .accumulator)) (addPacket g send remote .«need_new_group»)
+      cases (λ (x : Accumulated). Sound S R (x .accumulator)) (addPacket g send remote .«need_new_group»)
       (λ e. record { origin = o; previous = w; current = new-bounded })
       (λ e. record { origin = o; previous = v; current = added-bounded (belongsToGroup g send remote) w })
 
@@ -123,7 +120,7 @@ pub accumulate-sound : {S R send remote : ℕ} (a : ArrivalGroupAccumulator) →
 unfolding accumulatePacket
 accumulate-sound {S} {R} {send} {remote} a x h k s =
     let origin = instantOr (a .«send_time_origin») send in
-    either (λ (y : Accumulated). Sound S R (y .accumulator)) (ltb send origin) (λ e. s)
+    cases (λ (y : Accumulated). Sound S R (y .accumulator)) (ltb send origin) (λ e. s)
     (λ e.
     let l = ltb-false send origin e in
     let n = rounded-nearest origin (send - origin) (omega arith) in

@@ -18,6 +18,7 @@ use Rattle.float_order.specs.Ops.{zero₊}
 use Rattle.float_order.specs.Range.{In, Within, nat, in-wider}
 use Rattle.float_order.specs.Interval.{floats}
 use Rattle.float_order.specs.Same.{isZero, eq→same}
+use Rattle.bool_laws.specs.Bools.{left, right}
 use Rattle.sqrt.specs.Sqrt.{sqrt}
 use Rattle.average.specs.declared.OptionF64.{OptionF64}
 use Rattle.average.specs.declared.OptionF64.the-variants as F64
@@ -163,14 +164,6 @@ pub record InRange (l : Link) : Type 0 where
   pub last-report : InstantAtMost mostNs (l .control .«last_twcc_report»)
 
 -- ---- kinds of fields
-left : (a b : Bool) → a && b ≡ true → a ≡ true
-left true b h = refl
-left false b h = h
-
-right : (a b : Bool) → a && b ≡ true → b ≡ true
-right true b h = h
-right false b h = absurd (is-true false h)
-
 within-in : {low high x : Float} → within low high x ≡ true → In low high x
 within-in {low} {high} {x} h = record { low = is-true (le low x) (search left); high = is-true (le x high) (search (left, right)) }
 

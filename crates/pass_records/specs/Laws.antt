@@ -8,6 +8,7 @@ use native.Mathlib.Omega.{arith}
 use lib.Dec.{eqb, ltb, leb}
 use lib.ListN.{length}
 use borrow.Author.Tests.{ne-eqb, ltb-true, leb-true, eqb-true, eqb-false}
+use Rattle.bool_laws.specs.Bools.{both, cases}
 use Rattle.pass_records.specs.declared.Following.{Following}
 use Rattle.pass_records.specs.declared.Following.the-variants.{Next, End, BadKind, BadNext}
 use Rattle.pass_records.specs.declared.Judged.the-variants as J
@@ -78,20 +79,11 @@ pub record LinkedFile (file : List ℕ) : Type 0 where
   pub few : length (chain file) ≤ recordCount file
   pub formed : (k : ℕ) → List·Memᴰ k (chain file) → Formed (recordAt file k)
 
--- ---- tests
-either : {A : Type 0} (P : A → Type 0) (t : Bool) {x y : A} → (t ≡ true → P x) → (t ≡ false → P y) → P (cond t x y)
-either P true f g = f refl
-either P false f g = g refl
-
-both : (a b : Bool) → a && b ≡ true → (a ≡ true) × (b ≡ true)
-both true b e = (refl, e)
-both false b e = absurd (let z : _≡_ {A = ℕ} 0 1 = cc in omega arith)
-
 -- ---- questions 10, 11 and 12
 pub counted : (file : List ℕ) → (recordCount file ≤ mostRecords) × (0 < recordCount file → length file ≡ recordCount file * recordBytes)
 unfolding recordCount
 counted file =
-    either
+    cases
     (λ n. (n ≤ mostRecords) × (0 < n → length file ≡ n * recordBytes))
     (eqb (length file % recordBytes) 0 && leb (length file / recordBytes) mostRecords)
     (λ e.
@@ -104,7 +96,7 @@ module _ (bytes : List ℕ) where
   pub well-formed : wellFormed bytes ≡ true → Formed bytes
   unfolding wellFormed
   well-formed =
-      either
+      cases
       (λ t. t ≡ true → Formed bytes)
       (eqb (kind bytes) report)
       (λ e h.
@@ -117,17 +109,17 @@ module _ (bytes : List ℕ) where
   pub successor-told : (last k : ℕ) → Told bytes last k (successor bytes last k)
   unfolding successor
   successor-told last k =
-      either
+      cases
       (Told bytes last k)
       (wellFormed bytes)
       (λ a.
       let formed = well-formed a in
-      either
+      cases
       (Told bytes last k)
       (eqb (next bytes) 0)
       (λ b. (formed, eqb-true _ _ b))
       (λ b.
-      either
+      cases
       (Told bytes last k)
       (ltb k (next bytes) && leb (next bytes) last)
       (λ d.
@@ -234,7 +226,7 @@ module _ (file : List ℕ) (last : ℕ) where
 pub linked-file : (file : List ℕ) → judge file ≡ J.Linked → LinkedFile file
 unfolding judge
 linked-file file =
-    either
+    cases
     (λ j. j ≡ J.Linked → LinkedFile file)
     (eqb (recordCount file) 0)
     (λ e h. absurd (let z : _≡_ {A = ℕ} 0 1 = cc in omega arith))
