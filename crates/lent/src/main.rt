@@ -3,7 +3,6 @@
 use bandwidth::Bitrate;
 use bandwidth::DataSize;
 use libc::STDOUT_FILENO;
-use link::Answer;
 use link_state::Link;
 
 fn fresh() -> Link {
@@ -12,24 +11,11 @@ fn fresh() -> Link {
     Link { acked, control }
 }
 
-fn number(answer: Answer) -> u64 {
-    match answer {
-        Answer::Accepted(_) => 0,
-        Answer::OutOfRange => 1,
-        Answer::BadLists => 4,
-        Answer::BadInstant => 5,
-        Answer::BadSize => 6,
-        Answer::BadMoment => 7,
-        Answer::BadProbe => 8,
-        Answer::TooManyBytes => 9,
-    }
-}
-
 fn show(link: Link) {
     let called = link::timeout(link, 1_000_000_000);
     let answer = called.answer;
     io::write_all(STDOUT_FILENO, b" ");
-    io::print_decimal(STDOUT_FILENO, number(answer));
+    io::print_decimal(STDOUT_FILENO, answer.number());
 }
 
 fn name(text: &[u8]) {

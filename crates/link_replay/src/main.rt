@@ -206,32 +206,21 @@ fn opening(done: Done, block: &[u8], at: usize) -> Done {
         word(block, at, 16),
         word(block, at, 24),
     );
-    match opened {
-        Opened::Accepted(o) => {
-            let link = o.link();
-            let ok = agrees(block, at, shown(0, link));
-            Done {
-                link,
-                waiting: done.waiting,
-                counts: counted(counts, false, ok),
-            }
-        }
-        Opened::BadStartBitrate => {
-            let ok = agrees(block, at, shown(2, before));
-            Done {
-                link: before,
-                waiting: done.waiting,
-                counts: counted(counts, false, ok),
-            }
-        }
-        Opened::BadWindow => {
-            let ok = agrees(block, at, shown(3, before));
-            Done {
-                link: before,
-                waiting: done.waiting,
-                counts: counted(counts, false, ok),
-            }
-        }
+    let number = opened.number();
+    if let Opened::Accepted(o) = opened {
+        let link = o.link();
+        let ok = agrees(block, at, shown(number, link));
+        return Done {
+            link,
+            waiting: done.waiting,
+            counts: counted(counts, false, ok),
+        };
+    }
+    let ok = agrees(block, at, shown(number, before));
+    Done {
+        link: before,
+        waiting: done.waiting,
+        counts: counted(counts, false, ok),
     }
 }
 

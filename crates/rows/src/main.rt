@@ -6,7 +6,6 @@ use bandwidth::DataSize;
 use bandwidth::OptionBitrate;
 use control::DelayController;
 use libc::STDOUT_FILENO;
-use link::Answer;
 use link_state::Link;
 use trendline::Delays;
 
@@ -46,19 +45,6 @@ fn threshold(name: &[u8], modified_trend: f64) {
     io::write_all(STDOUT_FILENO, b": adapts\n");
 }
 
-fn number(answer: Answer) -> u64 {
-    match answer {
-        Answer::Accepted(_) => 0,
-        Answer::OutOfRange => 1,
-        Answer::BadLists => 4,
-        Answer::BadInstant => 5,
-        Answer::BadSize => 6,
-        Answer::BadMoment => 7,
-        Answer::BadProbe => 8,
-        Answer::TooManyBytes => 9,
-    }
-}
-
 fn fresh() -> Link {
     let acked = AckedBitrateEstimator::new(500_000_000, 150_000_000);
     let control = DelayController::new(Bitrate(1_000_000.0));
@@ -80,7 +66,7 @@ fn packets(name: &[u8], sizes: &[u64], instants: &[u64]) {
     let answer = called.answer;
     io::write_all(STDOUT_FILENO, name);
     io::write_all(STDOUT_FILENO, b": ");
-    io::print_decimal(STDOUT_FILENO, number(answer));
+    io::print_decimal(STDOUT_FILENO, answer.number());
     io::write_all(STDOUT_FILENO, b"\n");
 }
 

@@ -108,16 +108,7 @@ fn taken(report: u64) -> u64 {
 }
 
 fn is_refused(answer: Answer) -> u64 {
-    match answer {
-        Answer::Accepted(_) => 0,
-        Answer::OutOfRange => 1,
-        Answer::BadLists => 1,
-        Answer::BadInstant => 1,
-        Answer::BadSize => 1,
-        Answer::BadMoment => 1,
-        Answer::BadProbe => 1,
-        Answer::TooManyBytes => 1,
-    }
+    (answer.number() != 0) as u64
 }
 
 fn line(second: u64, link: Link, refused: u64) {
