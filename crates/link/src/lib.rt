@@ -150,15 +150,7 @@ pub fn judge_report(
 ) -> Judged
     ensures { λ r. ⌜ Calls.judged r ≡ Calls.judgeReport acked (report-of (now (sequences .entry)) (now (sizes .entry)) (now (sends .entry)) (now (remotes .entry)) (now (receives .entry)) probe moment) ⌝ }
 {
-    let refusal = questions::report(
-        sequences,
-        sizes,
-        sends,
-        remotes,
-        receives,
-        probe,
-        moment,
-    );
+    let refusal = questions::report(sequences, sizes, sends, remotes, receives, probe, moment);
     if let OptionRefusal::Some(question) = refusal {
         return Judged {
             refusal: OptionRefusal::Some(question),

@@ -187,7 +187,11 @@ fn delays_in(d: Delays) -> bool
 {
     let accumulated = float::within(-MOST_30, MOST_30, d.accumulated_delay);
     let smoothed = float::within(-MOST_31, MOST_31, d.smoothed_delay);
-    let threshold = float::within(Delays::MIN_THRESHOLD_MS, Delays::MAX_THRESHOLD_MS, d.delay_threshold);
+    let threshold = float::within(
+        Delays::MIN_THRESHOLD_MS,
+        Delays::MAX_THRESHOLD_MS,
+        d.delay_threshold,
+    );
     (d.num_delay_variations <= 1000)
         & accumulated
         & smoothed
