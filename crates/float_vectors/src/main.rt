@@ -1,10 +1,7 @@
 // Compares the float helpers with answers of Rust's own `f64` and `Duration`: data/ has a file a function, made by
 // tools/float_vectors.rs. Each function gives a line: its name, how many records were read, how many answers differ.
-use libc::STDOUT_FILENO;
-use std::num::wrapping_add_u64;
-use std::num::wrapping_add_usize;
+use cases::Counts;
 use std::num::wrapping_sub_usize;
-ghost use Prim.Native.Nat.{_<_};
 
 // What a function answers to a record's inputs, as the record would have it. f is the function's place in `main`.
 fn answer(f: u8, x: u64, y: u64, z: u64) -> u64 {
@@ -40,51 +37,34 @@ fn answer(f: u8, x: u64, y: u64, z: u64) -> u64 {
     seconds::from_secs_f64(a)
 }
 
-// Whether the record of `size` bytes at a place of the block has the helper's answer.
-fn agrees(f: u8, size: usize, block: &[u8], at: usize) -> bool {
-    let x = le_bytes::read_u64(block, at);
-    let y = le_bytes::read_u64(block, wrapping_add_usize(at, 8));
-    let z = le_bytes::read_u64(block, wrapping_add_usize(at, 16));
-    let last = wrapping_sub_usize(wrapping_add_usize(at, size), 8);
-    answer(f, x, y, z) == le_bytes::read_u64(block, last)
+// Whether a record of `size` bytes has the helper's answer: its last word.
+fn agrees(f: u8, size: usize, record: &[u8]) -> bool {
+    let x = le_bytes::read_u64(record, 0);
+    let y = le_bytes::read_u64(record, 8);
+    let z = le_bytes::read_u64(record, 16);
+    answer(f, x, y, z) == le_bytes::read_u64(record, wrapping_sub_usize(size, 8))
 }
 
-// How many of the first n records of a block differ.
-fn differences(f: u8, size: usize, n: usize, block: &[u8]) -> u64 {
-    let mut wrong = 0;
-    let mut at = 0;
-    for _ in 0..n {
-        if !agrees(f, size, block, at) {
-            wrong = wrapping_add_u64(wrong, 1);
-        }
-        at = wrapping_add_usize(at, size);
+// Whether there was a record of `size` bytes to read.
+fn read(file: i32, size: usize, record: &mut [u8]) -> bool {
+    if record.len() < size {
+        return false;
     }
-    wrong
+    io::read_full(file, &mut record[0..size]) == size
 }
 
-fn print(name: &[u8], records: u64, wrong: u64) {
-    io::write_all(STDOUT_FILENO, name);
-    io::write_all(STDOUT_FILENO, b" ");
-    io::print_decimal(STDOUT_FILENO, records);
-    io::write_all(STDOUT_FILENO, b" ");
-    io::print_decimal(STDOUT_FILENO, wrong);
-    io::write_all(STDOUT_FILENO, b"\n");
-}
-
-// Compares a file, read by blocks of 49,152 bytes: a whole number of records of 16, 24 and 32 bytes.
-fn compare(name: &[u8], f: u8, size: usize)
-    requires { ⌜ 0 < size ⌝ }
-{
+// Compares a file of records of `size` bytes.
+fn compare(name: &[u8], f: u8, size: usize) {
     let file = os::open_read(name);
-    let mut records = 0;
-    let mut wrong = 0;
-    for _ in 0..64u64 {
-        let mut block = [0u8; 49152];
-        let n = io::read_full(file, &mut block) / size;
-        wrong = wrapping_add_u64(wrong, differences(f, size, n, &block));
-        records = wrapping_add_u64(records, n as u64);
+    let mut counts = Counts::new();
+    for _ in 0..1_000_000u64 {
+        let mut record = [0u8; 32];
+        if !read(file, size, &mut record) {
+            break;
+        }
+        counts = counts.counted(0, agrees(f, size, &record));
     }
-    print(name, records, wrong);
+    counts.print(name);
 }
 
 fn main() {

@@ -1,71 +1,66 @@
 // The operations of tools/oracle/drive.rs on the trendline, the rate control and the delay controller, on our side.
-use crate::cases::Answers;
-use crate::cases::Inputs;
-use crate::cases::delta;
-use crate::cases::delta_ns;
-use crate::cases::delta_tag;
-use crate::cases::flag;
-use crate::cases::option_rate;
-use crate::cases::rate;
-use crate::cases::rate_bits;
-use crate::cases::usage;
-use crate::cases::words;
+use crate::numbers::delta;
+use crate::numbers::delta_ns;
+use crate::numbers::delta_tag;
+use crate::numbers::option_rate;
+use crate::numbers::rate;
+use crate::numbers::rate_bits;
+use crate::numbers::usage;
 use arrival_group::InterGroupDelayDelta;
 use average::OptionF64;
 use bandwidth::Bitrate;
 use bandwidth::OptionBitrate;
+use cases::Case;
 use control::DelayController;
 use rate_control::RateControl;
 use rate_control::Signal;
 use rate_control::State;
+use std::num::wrapping_add_usize;
 use time::OptionDuration;
 use trendline::OptionOveruse;
 use trendline::TrendlineEstimator;
 
-// The packets that wait for a report: room for 128.
+// The packets that wait for a report, with room for 128: send instants, then remote ones from place 128 on, then local ones from 256 on.
 pub struct Waiting {
-    sends: [u64; 128],
-    remotes: [u64; 128],
-    locals: [u64; 128],
+    lists: [u64; 384],
     n: usize,
 }
 
-pub struct States {
-    pub trendline: TrendlineEstimator,
-    pub rate: RateControl,
-    pub control: DelayController,
-    pub waiting: Waiting,
-}
-
-pub struct Ran {
-    pub states: States,
-    pub answers: Answers,
-}
-
-// Hypothesis with the counts of variations and of overuse, threshold, trend, sums, and the time of overuse.
-fn trend_words(t: TrendlineEstimator) -> Answers {
+// Hypothesis with the counts of variations and of overuse.
+fn trend_word(t: TrendlineEstimator) -> u64 {
     let d = t.delays;
     let overuse = t.overuse;
-    let threshold = float_bits::to_bits(d.delay_threshold);
-    let trend = float_bits::to_bits(d.previous_trend);
-    let accumulated = float_bits::to_bits(d.accumulated_delay);
-    let smoothed = float_bits::to_bits(d.smoothed_delay);
     let count = usage(t.hypothesis()) | (d.num_delay_variations << 8);
     match overuse {
-        OptionOveruse::None => words(count, threshold, trend, accumulated, smoothed, 0),
+        OptionOveruse::None => count,
         OptionOveruse::Some(o) => {
             let time = o.time_overusing;
-            let tag = delta_tag(time) % 4 + 1;
-            words(
-                count | (o.count << 32) | (tag << 40),
-                threshold,
-                trend,
-                accumulated,
-                smoothed,
-                delta_ns(time),
-            )
+            count | (o.count << 32) | ((delta_tag(time) % 4 + 1) << 40)
         }
     }
+}
+
+fn overusing_ns(overuse: OptionOveruse) -> u64 {
+    match overuse {
+        OptionOveruse::None => 0,
+        OptionOveruse::Some(o) => {
+            let time = o.time_overusing;
+            delta_ns(time)
+        }
+    }
+}
+
+pub fn trend_words(t: TrendlineEstimator) -> [u64; 6] {
+    let d = t.delays;
+    let overuse = t.overuse;
+    [
+        trend_word(t),
+        float_bits::to_bits(d.delay_threshold),
+        float_bits::to_bits(d.previous_trend),
+        float_bits::to_bits(d.accumulated_delay),
+        float_bits::to_bits(d.smoothed_delay),
+        overusing_ns(overuse),
+    ]
 }
 
 fn state_number(s: State) -> u64 {
@@ -76,7 +71,7 @@ fn state_number(s: State) -> u64 {
     }
 }
 
-fn rate_words(r: RateControl) -> Answers {
+pub fn rate_words(r: RateControl) -> [u64; 6] {
     let m = r.averaged_observed_bitrate;
     let state = r.state;
     let number = state_number(state);
@@ -85,19 +80,21 @@ fn rate_words(r: RateControl) -> Answers {
     let std = float_bits::to_bits(m.std);
     let average = m.get();
     match average {
-        OptionF64::None => words(estimate, number, 0, 0, variance, std),
-        OptionF64::Some(x) => words(estimate, number, 1, float_bits::to_bits(x), variance, std),
+        OptionF64::None => [estimate, number, 0, 0, variance, std],
+        OptionF64::Some(x) => [estimate, number, 1, float_bits::to_bits(x), variance, std],
     }
 }
 
-fn control_words(c: DelayController) -> Answers {
-    let t = trend_words(c.trendline_estimator).w;
+pub fn control_words(c: DelayController) -> [u64; 6] {
+    let trendline = c.trendline_estimator;
+    let word = trend_word(trendline);
+    let threshold = float_bits::to_bits(trendline.delays.delay_threshold);
     let estimate = rate_bits(c.last_estimate());
     let next = c.poll_timeout();
     let rtt = c.get_smoothed_rtt();
     match rtt {
-        OptionDuration::None => words(estimate, t[0], next, t[1], 0, 0),
-        OptionDuration::Some(d) => words(estimate, t[0], next, t[1], 1, d),
+        OptionDuration::None => [estimate, word, next, threshold, 0, 0],
+        OptionDuration::Some(d) => [estimate, word, next, threshold, 1, d],
     }
 }
 
@@ -118,202 +115,102 @@ fn option_duration(tag: u64, n: u64) -> OptionDuration {
     OptionDuration::None
 }
 
-fn next_trendline(op: u64, t: TrendlineEstimator, i: Inputs) -> TrendlineEstimator {
-    if op == 50 {
+pub fn next_trendline(t: TrendlineEstimator, i: Case) -> TrendlineEstimator {
+    if i.op == 50 {
         return TrendlineEstimator::new();
     }
-    let variation = InterGroupDelayDelta {
-        send_delta: delta(i.a, i.b),
-        arrival_delta: delta(i.c, i.d),
-        last_remote_recv_time: i.e,
-    };
-    t.add_delay_observation(variation, i.e)
+    if i.op == 51 {
+        let variation = InterGroupDelayDelta {
+            send_delta: delta(i.a, i.b),
+            arrival_delta: delta(i.c, i.d),
+            last_remote_recv_time: i.e,
+        };
+        return t.add_delay_observation(variation, i.e);
+    }
+    t
 }
 
-fn next_rate(op: u64, r: RateControl, i: Inputs) -> RateControl {
-    if op == 60 {
+pub fn next_rate(r: RateControl, i: Case) -> RateControl {
+    if i.op == 60 {
         return RateControl::new(rate(i.a), rate(i.b), rate(i.c));
     }
-    if op == 61 {
+    if i.op == 61 {
         return r.update(signal(i.a), rate(i.b), option_duration(i.c, i.d), i.e);
     }
-    r.set_probe_result(rate(i.a), i.b)
+    if i.op == 62 {
+        return r.set_probe_result(rate(i.a), i.b);
+    }
+    r
 }
 
 impl Waiting {
-    fn new() -> Self {
+    pub fn new() -> Self {
         Self {
-            sends: [0; 128],
-            remotes: [0; 128],
-            locals: [0; 128],
+            lists: [0; 384],
             n: 0,
         }
     }
 
-    // Where there is no more room the packet is lost and the answers differ from the oracle's.
-    fn has_room(self) -> bool {
-        self.n < 128
-    }
-
-    fn push(self, send: u64, remote: u64, local: u64) -> Self {
+    fn push(self, i: Case) -> Self {
         let mut w = self;
         let n = w.n;
         if n < 128 {
-            w.sends[n] = send;
-            w.remotes[n] = remote;
-            w.locals[n] = local;
-            w.n = n + 1;
+            w.lists[n] = i.a;
+            w.lists[n + 128] = i.b;
+            w.lists[n + 256] = i.c;
         }
+        w.n = wrapping_add_usize(n, 1);
         w
     }
 }
 
-// The first n packets as a report.
-fn report_first(
-    control: DelayController,
-    sends: &[u64],
-    remotes: &[u64],
-    locals: &[u64],
-    n: usize,
-    i: Inputs,
-) -> DelayController {
-    if n > sends.len() {
-        return control;
+// A packet that finds no room is lost: its answer differs from the oracle's, which is 0.
+pub fn waiting_words(w: Waiting) -> [u64; 6] {
+    [(w.n > 128) as u64, 0, 0, 0, 0, 0]
+}
+
+// The n numbers from a start on. Where there are not so many, which no case reaches, all.
+fn part(lists: &[u64], start: usize, n: usize) -> &[u64] {
+    if start > lists.len() {
+        return lists;
     }
-    if n > remotes.len() {
-        return control;
+    if n > lists.len() - start {
+        return lists;
     }
-    if n > locals.len() {
-        return control;
-    }
-    control.update(
-        &sends[0..n],
-        &remotes[0..n],
-        &locals[0..n],
+    &lists[start..start + n]
+}
+
+fn report(c: DelayController, lists: &[u64], n: usize, i: Case) -> DelayController {
+    c.update(
+        part(lists, 0, n),
+        part(lists, 128, n),
+        part(lists, 256, n),
         option_rate(i.a % 2, i.b),
         option_rate(i.a / 2, i.c),
         i.d,
     )
 }
 
-fn report(
-    sends: [u64; 128],
-    remotes: [u64; 128],
-    locals: [u64; 128],
-    n: usize,
-    i: Inputs,
-    control: DelayController,
-) -> DelayController {
-    report_first(control, &sends, &remotes, &locals, n, i)
-}
-
-fn next_control(op: u64, c: DelayController, w: Waiting, i: Inputs) -> DelayController {
-    if op == 70 {
+pub fn next_control(c: DelayController, w: Waiting, i: Case) -> DelayController {
+    if i.op == 70 {
         return DelayController::new(rate(i.a));
     }
-    if op == 72 {
-        let sends = w.sends;
-        let remotes = w.remotes;
-        let locals = w.locals;
-        return report(sends, remotes, locals, w.n, i, c);
+    if i.op == 72 {
+        let lists = w.lists;
+        return report(c, &lists, w.n, i);
     }
-    c.handle_timeout(option_rate(i.a, i.b), i.c)
+    if i.op == 73 {
+        return c.handle_timeout(option_rate(i.a, i.b), i.c);
+    }
+    c
 }
 
-impl States {
-    pub fn new() -> Self {
-        let trendline = TrendlineEstimator::new();
-        let rate = RateControl::new(
-            Bitrate(1_000_000.0),
-            Bitrate::MIN_ESTIMATE,
-            Bitrate::MAX_ESTIMATE,
-        );
-        let control = DelayController::new(Bitrate(1_000_000.0));
-        let waiting = Waiting::new();
-        Self {
-            trendline,
-            rate,
-            control,
-            waiting,
-        }
+pub fn next_waiting(w: Waiting, i: Case) -> Waiting {
+    if i.op == 71 {
+        return w.push(i);
     }
-
-    fn run_trendline(self, op: u64, i: Inputs) -> Ran {
-        let rate = self.rate;
-        let control = self.control;
-        let waiting = self.waiting;
-        let trendline = next_trendline(op, self.trendline, i);
-        let answers = trend_words(trendline);
-        let states = States {
-            trendline,
-            rate,
-            control,
-            waiting,
-        };
-        Ran { states, answers }
+    if i.op == 72 {
+        return Waiting::new();
     }
-
-    fn run_rate(self, op: u64, i: Inputs) -> Ran {
-        let trendline = self.trendline;
-        let control = self.control;
-        let waiting = self.waiting;
-        let rate = next_rate(op, self.rate, i);
-        let answers = rate_words(rate);
-        let states = States {
-            trendline,
-            rate,
-            control,
-            waiting,
-        };
-        Ran { states, answers }
-    }
-
-    fn run_packet(self, i: Inputs) -> Ran {
-        let trendline = self.trendline;
-        let rate = self.rate;
-        let control = self.control;
-        let before = self.waiting;
-        let lost = !before.has_room();
-        let waiting = before.push(i.a, i.b, i.c);
-        let answers = words(flag(lost, 1), 0, 0, 0, 0, 0);
-        let states = States {
-            trendline,
-            rate,
-            control,
-            waiting,
-        };
-        Ran { states, answers }
-    }
-
-    fn run_control(self, op: u64, i: Inputs) -> Ran {
-        let trendline = self.trendline;
-        let rate = self.rate;
-        let control = next_control(op, self.control, self.waiting, i);
-        let waiting = if op == 72 {
-            Waiting::new()
-        } else {
-            self.waiting
-        };
-        let answers = control_words(control);
-        let states = States {
-            trendline,
-            rate,
-            control,
-            waiting,
-        };
-        Ran { states, answers }
-    }
-
-    pub fn run(self, op: u64, i: Inputs) -> Ran {
-        if op < 60 {
-            return self.run_trendline(op, i);
-        }
-        if op < 70 {
-            return self.run_rate(op, i);
-        }
-        if op == 71 {
-            return self.run_packet(i);
-        }
-        self.run_control(op, i)
-    }
+    w
 }

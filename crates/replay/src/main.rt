@@ -1,26 +1,26 @@
 // Replays cases of the oracle (tools/oracle) from standard input and compares every answer to the bit. A case is 12 words of 8 bytes,
 // little-endian: an operation, 5 inputs, 6 answers. A line a module: its name, how many cases, how many differ. Then the first case that differs.
-mod cases;
 mod delay;
+mod numbers;
 mod quantities;
 
-use cases::Answers;
-use cases::Inputs;
+use acked_bitrate_estimator::AckedBitrateEstimator;
+use arrival_group::Accumulated;
+use average::MovingAverage;
+use bandwidth::Bitrate;
+use cases::Case;
+use cases::Counts;
+use control::DelayController;
+use delay::Waiting;
 use libc::STDIN_FILENO;
-use libc::STDOUT_FILENO;
-use std::num::wrapping_add_u64;
-use std::num::wrapping_add_usize;
-
-// Of each module how many cases and how many that differ; the place of the first that differs, counted from 1.
-struct Counts {
-    cases: [u64; 8],
-    wrong: [u64; 8],
-    all: u64,
-    first: u64,
-}
+use rate_control::RateControl;
+use trendline::TrendlineEstimator;
+ghost use Prim.Native.Nat.{_<_};
 
 // The module of an operation: they have ten numbers each, from 1 on for time, then from 20 on.
-fn module(op: u64) -> usize {
+fn module(op: u64) -> usize
+    ensures { λ r. ⌜ r < 8 ⌝ }
+{
     if op < 20 {
         return 0;
     }
@@ -30,132 +30,128 @@ fn module(op: u64) -> usize {
     7
 }
 
-fn word(block: &[u8], at: usize, i: usize) -> u64 {
-    le_bytes::read_u64(block, wrapping_add_usize(at, i))
+// The counts of each module, and of all.
+struct Modules {
+    counts: [Counts; 8],
+    all: Counts,
 }
 
-fn agrees(block: &[u8], at: usize, answers: Answers) -> bool {
-    let w = answers.w;
-    (w[0] == word(block, at, 48))
-        & (w[1] == word(block, at, 56))
-        & (w[2] == word(block, at, 64))
-        & (w[3] == word(block, at, 72))
-        & (w[4] == word(block, at, 80))
-        & (w[5] == word(block, at, 88))
-}
-
-fn counted(counts: Counts, module: usize, agrees: bool) -> Counts {
-    let mut c = counts;
-    if module < 8 {
-        c.cases[module] = wrapping_add_u64(c.cases[module], 1);
-        c.all = wrapping_add_u64(c.all, 1);
-        if !agrees {
-            c.wrong[module] = wrapping_add_u64(c.wrong[module], 1);
-            if c.first == 0 {
-                c.first = c.all;
-            }
+impl Modules {
+    fn new() -> Self {
+        let none = Counts::new();
+        Self {
+            counts: [none; 8],
+            all: none,
         }
     }
-    c
-}
 
-struct Done {
-    quantities: quantities::States,
-    delay: delay::States,
-    counts: Counts,
-}
-
-fn inputs(block: &[u8], at: usize) -> Inputs {
-    Inputs {
-        a: word(block, at, 8),
-        b: word(block, at, 16),
-        c: word(block, at, 24),
-        d: word(block, at, 32),
-        e: word(block, at, 40),
-    }
-}
-
-fn one(done: Done, block: &[u8], at: usize) -> Done {
-    let op = word(block, at, 0);
-    let i = inputs(block, at);
-    let quantities = done.quantities;
-    let delay = done.delay;
-    let counts = done.counts;
-    if (op >= 50) & (op < 80) {
-        let ran = delay.run(op, i);
-        let delay = ran.states;
-        let ok = agrees(block, at, ran.answers);
-        let counts = counted(counts, module(op), ok);
-        return Done {
-            quantities,
-            delay,
+    // With one case more, which our side answers so.
+    fn counted(self, i: Case, answers: [u64; 6]) -> Self {
+        let mut counts = self.counts;
+        let all = self.all;
+        let agrees = i.agrees(answers);
+        let m = module(i.op);
+        counts[m] = counts[m].counted(0, agrees);
+        Self {
             counts,
-        };
+            all: all.counted(0, agrees),
+        }
     }
-    let ran = quantities.run(op, i);
-    let quantities = ran.states;
-    let ok = agrees(block, at, ran.answers);
-    let counts = counted(counts, module(op), ok);
-    Done {
-        quantities,
-        delay,
-        counts,
+
+    fn print(self) {
+        let c = self.counts;
+        let all = self.all;
+        c[0].print(b"time");
+        c[1].print(b"average");
+        c[2].print(b"acked_bitrate_estimator");
+        c[3].print(b"arrival_group");
+        c[4].print(b"trendline");
+        c[5].print(b"rate_control");
+        c[6].print(b"control");
+        c[7].print(b"bandwidth");
+        all.print_first();
     }
 }
 
-fn many(done: Done, block: &[u8], n: usize) -> Done {
-    let mut done = done;
-    let mut at = 0;
-    for _ in 0..n {
-        done = one(done, block, at);
-        at = wrapping_add_usize(at, 96);
+// What the operations of each module work on.
+struct States {
+    average: MovingAverage,
+    acked: AckedBitrateEstimator,
+    groups: Accumulated,
+    trendline: TrendlineEstimator,
+    rate: RateControl,
+    control: DelayController,
+    waiting: Waiting,
+}
+
+impl States {
+    fn new() -> Self {
+        let start = Bitrate(1_000_000.0);
+        Self {
+            average: MovingAverage::new(0.95),
+            acked: AckedBitrateEstimator::new(500_000_000, 150_000_000),
+            groups: quantities::no_groups(),
+            trendline: TrendlineEstimator::new(),
+            rate: RateControl::new(start, Bitrate::MIN_ESTIMATE, Bitrate::MAX_ESTIMATE),
+            control: DelayController::new(start),
+            waiting: Waiting::new(),
+        }
     }
-    done
-}
 
-fn line(name: &[u8], cases: u64, wrong: u64) {
-    io::write_all(STDOUT_FILENO, name);
-    io::write_all(STDOUT_FILENO, b" ");
-    io::print_decimal(STDOUT_FILENO, cases);
-    io::write_all(STDOUT_FILENO, b" ");
-    io::print_decimal(STDOUT_FILENO, wrong);
-    io::write_all(STDOUT_FILENO, b"\n");
-}
+    // After a case. Each operation changes the states of its own module.
+    fn next(self, i: Case) -> Self {
+        let mut s = self;
+        s.average = quantities::next_average(s.average, i);
+        s.acked = quantities::next_acked(s.acked, i);
+        s.groups = quantities::next_groups(s.groups, i);
+        s.trendline = delay::next_trendline(s.trendline, i);
+        s.rate = delay::next_rate(s.rate, i);
+        s.control = delay::next_control(s.control, s.waiting, i);
+        s.waiting = delay::next_waiting(s.waiting, i);
+        s
+    }
 
-fn report(c: Counts) {
-    line(b"time", c.cases[0], c.wrong[0]);
-    line(b"average", c.cases[1], c.wrong[1]);
-    line(b"acked_bitrate_estimator", c.cases[2], c.wrong[2]);
-    line(b"arrival_group", c.cases[3], c.wrong[3]);
-    line(b"trendline", c.cases[4], c.wrong[4]);
-    line(b"rate_control", c.cases[5], c.wrong[5]);
-    line(b"control", c.cases[6], c.wrong[6]);
-    line(b"bandwidth", c.cases[7], c.wrong[7]);
-    if c.first != 0 {
-        line(b"first", c.first, 0);
+    // Our answers to a case, from the states after it.
+    fn words(self, i: Case) -> [u64; 6] {
+        if i.op < 20 {
+            return quantities::time_words(i);
+        }
+        if i.op < 30 {
+            return quantities::average_words(self.average, i);
+        }
+        if i.op < 40 {
+            return quantities::acked_words(self.acked);
+        }
+        if i.op < 50 {
+            return quantities::group_words(self.groups);
+        }
+        if i.op < 60 {
+            return delay::trend_words(self.trendline);
+        }
+        if i.op < 70 {
+            return delay::rate_words(self.rate);
+        }
+        if i.op == 71 {
+            return delay::waiting_words(self.waiting);
+        }
+        if i.op < 80 {
+            return delay::control_words(self.control);
+        }
+        quantities::bandwidth_words(i)
     }
 }
 
 fn main() {
-    let counts = Counts {
-        cases: [0; 8],
-        wrong: [0; 8],
-        all: 0,
-        first: 0,
-    };
-    let mut done = Done {
-        quantities: quantities::States::new(),
-        delay: delay::States::new(),
-        counts,
-    };
+    let mut states = States::new();
+    let mut modules = Modules::new();
     for _ in 0..1_000_000_000u64 {
-        let mut block = [0u8; 98304];
-        let n = io::read_full(STDIN_FILENO, &mut block) / 96;
-        if n == 0 {
+        let mut bytes = [0u8; 96];
+        if io::read_full(STDIN_FILENO, &mut bytes) < 96 {
             break;
         }
-        done = many(done, &block, n);
+        let case = Case::read(&bytes);
+        states = states.next(case);
+        modules = modules.counted(case, states.words(case));
     }
-    let counts = done.counts;
-    report(counts);
+    modules.print();
 }

@@ -3,7 +3,6 @@
 use bandwidth::Bitrate;
 use bandwidth::OptionBitrate;
 use libc::STDOUT_FILENO;
-use link::Answer;
 use link::Called;
 use link::Opened;
 use link::Opening;
@@ -107,18 +106,16 @@ fn taken(report: u64) -> u64 {
     ns(wrapping_add_u64(sent(report, 0), 100))
 }
 
-fn is_refused(answer: Answer) -> u64 {
-    (answer.number() != 0) as u64
+// In bps.
+fn estimate(link: Link) -> u64 {
+    let control = link.control;
+    float::as_u64(control.last_estimate().as_f64())
 }
 
-fn line(second: u64, link: Link, refused: u64) {
-    let control = link.control;
+fn line(second: u64, bps: u64, refused: u64) {
     io::print_decimal(STDOUT_FILENO, second);
     io::write_all(STDOUT_FILENO, b" s: estimate ");
-    io::print_decimal(
-        STDOUT_FILENO,
-        float::as_u64(control.last_estimate().as_f64()),
-    );
+    io::print_decimal(STDOUT_FILENO, bps);
     io::write_all(STDOUT_FILENO, b" bps, reports refused so far: ");
     io::print_decimal(STDOUT_FILENO, refused);
     io::write_all(STDOUT_FILENO, b"\n");
@@ -144,9 +141,9 @@ fn next(number: u64, first_size: u64, state: State) -> State {
     let called = report(packets(number, first_size), taken(number), state.link);
     let answer = called.answer;
     let link = called.link;
-    let refused = wrapping_add_u64(state.refused, is_refused(answer));
+    let refused = wrapping_add_u64(state.refused, (answer.number() != 0) as u64);
     if is_shown(number) {
-        line(wrapping_add_u64(number / 20, 1), link, refused);
+        line(number / 20 + 1, estimate(link), refused);
     }
     State { link, refused }
 }

@@ -1,4 +1,4 @@
--- `link_replay::main` ends: it reads at most 1,000,000,000 blocks.
+-- `link_replay::main` ends: it reads at most 1,000,000,000 cases.
 use Prim.Native.Nat.{_≤_, _-_}
 use mathlib.Core.Path.{_≡_}
 use lib.ListN.{length}
@@ -7,10 +7,10 @@ use Rattle.link_replay.proofs.main.Statement.{statement}
 use Rattle.link_replay.proofs.main.Tie as tie
 
 abbrev Inv-loop : tie.InvT-loop
-Inv-loop done₀ lists₀ counter₀ done lists counter = (length lists ≡ 5500) × (counter ≤ 1_000_000_000)
+Inv-loop done₀ lists₀ t4 counter₀ done lists counter = (length lists ≡ 5500) × (counter ≤ 1_000_000_000)
 
 abbrev μ-loop : tie.MeasureT-loop
-μ-loop done₀ lists₀ counter₀ done lists counter = 1_000_000_000 - counter
+μ-loop done₀ lists₀ t4 counter₀ done lists counter = 1_000_000_000 - counter
 
 pub main-spec : {M : Type 1} → statement M
 main-spec =
@@ -25,6 +25,8 @@ main-spec =
     (λ c. search needs)
     (λ c. search needs)
     (λ c κs. search needs)
+    (λ c κs. search needs)
+    (λ c. search needs)
     (λ c. search needs)
     (λ c. search needs)
     (λ c. search needs)

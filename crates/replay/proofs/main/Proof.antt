@@ -1,14 +1,14 @@
--- `replay::main` ends: it reads at most 1,000,000,000 blocks.
+-- `replay::main` ends: it reads at most 1,000,000,000 cases.
 use Prim.Native.Nat.{_≤_, _-_}
 use borrow.Author.Needs.{needs}
 use Rattle.replay.proofs.main.Statement.{statement}
 use Rattle.replay.proofs.main.Tie as tie
 
 abbrev Inv-loop : tie.InvT-loop
-Inv-loop done₀ counter₀ done counter = counter ≤ 1_000_000_000
+Inv-loop states₀ modules₀ counter₀ states modules counter = counter ≤ 1_000_000_000
 
 abbrev μ-loop : tie.MeasureT-loop
-μ-loop done₀ counter₀ done counter = 1_000_000_000 - counter
+μ-loop states₀ modules₀ counter₀ states modules counter = 1_000_000_000 - counter
 
 pub main-spec : {M : Type 1} → statement M
 main-spec =
@@ -22,6 +22,9 @@ main-spec =
     (λ c. search needs)
     (λ c κs. search needs)
     (λ c. search needs)
+    (λ c κs. search needs)
+    (λ c κs. search needs)
+    (λ c κs. search needs)
     (λ c κs. search needs)
     (λ c. search needs)
     (λ c. search needs)

@@ -1,31 +1,8 @@
-// A case's inputs and answers as words, and the numbers that stand for enums.
+// The numbers that stand for enums and floats in a case.
 use bandwidth::BandwidthUsage;
 use bandwidth::Bitrate;
 use bandwidth::OptionBitrate;
 use time::TimeDelta;
-
-pub struct Answers {
-    pub w: [u64; 6],
-}
-
-pub struct Inputs {
-    pub a: u64,
-    pub b: u64,
-    pub c: u64,
-    pub d: u64,
-    pub e: u64,
-}
-
-pub fn words(a: u64, b: u64, c: u64, d: u64, e: u64, f: u64) -> Answers {
-    Answers {
-        w: [a, b, c, d, e, f],
-    }
-}
-
-// A bit of a word.
-pub fn flag(b: bool, bit: u64) -> u64 {
-    if b { bit } else { 0 }
-}
 
 pub fn rate(b: u64) -> Bitrate {
     Bitrate(float_bits::from_bits(b))
