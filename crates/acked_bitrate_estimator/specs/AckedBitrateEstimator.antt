@@ -5,7 +5,9 @@ use lib.Dec.{leb, ltb, eqb}
 use lib.IntN.{pos}
 use lib.Ieee as Ieee
 use lib.Ieee.{Float, binary64, ofInt, toUnsigned}
-use Rattle.float_order.specs.Binary64.{add, sub, mul, div, lit}
+use mathlib.Core.Path.{_≡_, refl}
+use Rattle.float_order.specs.Binary64.{add, sub, mul, div, lit, decimal}
+use Rattle.float_order.specs.Interval.{floats}
 use Rattle.float.specs.Float.{abs, max, ceil}
 use Rattle.bandwidth.specs.Bandwidth as B
 use Rattle.bandwidth.specs.declared.Bitrate.{Bitrate}
@@ -28,18 +30,33 @@ smallSampleThreshold = B.bytes (pos 2000)
 abbrev pub smallSampleUncertainty : Float
 smallSampleUncertainty = lit 0x4039_0000_0000_0000
 
+pub smallSampleUncertainty-is : smallSampleUncertainty ≡ decimal 25 1
+smallSampleUncertainty-is = unfold floats in refl
+
 abbrev pub uncertainty : Float
 uncertainty = lit 0x4024_0000_0000_0000
 
+pub uncertainty-is : uncertainty ≡ decimal 10 1
+uncertainty-is = unfold floats in refl
+
 abbrev pub estimateFloor : Float
 estimateFloor = lit 0x40e3_8800_0000_0000
+
+pub estimateFloor-is : estimateFloor ≡ decimal 40000 1
+estimateFloor-is = unfold floats in refl
 
 -- without a name in the Rust
 abbrev pub initialEstimateVar : Float
 initialEstimateVar = lit 0x4049_0000_0000_0000
 
+pub initialEstimateVar-is : initialEstimateVar ≡ decimal 50 1
+initialEstimateVar-is = unfold floats in refl
+
 abbrev pub estimateVarIncrease : Float
 estimateVarIncrease = lit 0x4014_0000_0000_0000
+
+pub estimateVarIncrease-is : estimateVarIncrease ≡ decimal 5 1
+estimateVarIncrease-is = unfold floats in refl
 
 abbrev pub none : DataSize
 none = B.bytes (pos 0)

@@ -39,17 +39,13 @@ use Rattle.acked_bitrate_estimator.specs.AckedBitrateEstimator.{smallSam
 use Rattle.acked_bitrate_estimator.specs.Mean.{mean-in, variance-in}
 
 -- ---- the claims
--- the limit of a window's bytes, and its test
-abbrev pub mostBytes : ℕ
-mostBytes = 2_147_483_647
-
 abbrev pub fewBytes : DataSize → Bool
-fewBytes sum = leZ (sum .0) (pos mostBytes)
+fewBytes sum = leZ (sum .0) (pos B.mostSum)
 
 pub record ValidSum (sum : DataSize) : Type 0 where
   pub bytes : ℕ
   pub is : sum ≡ B.bytes (pos bytes)
-  pub few : bytes ≤ mostBytes
+  pub few : bytes ≤ B.mostSum
 
 -- whole ms from 1 to 10,000, in ns
 pub record ValidWindow (ns : ℕ) : Type 0 where
@@ -59,6 +55,9 @@ pub record ValidWindow (ns : ℕ) : Type 0 where
 
 abbrev pub leastRate : Float
 leastRate = lit 0x3fe9_9999_9999_999a
+
+pub leastRate-is : leastRate ≡ decimal 8 10
+leastRate-is = unfold floats in refl
 
 -- from 0.8, 1 byte in 10 s, to 2 ^ 44, which 2,147,483,647 bytes in 1 ms stay below
 pub record ValidRate (x : Float) : Type 0 where
@@ -105,11 +104,11 @@ no-zero x h = go (eq x (lit 0)) (λ t. unfold floats in le-trans millisecond x (
     go true f = absurd (f tt)
     go false f = refl
 
-rate-valid : (n w : ℕ) → 1 ≤ n → n ≤ mostBytes → ValidWindow w → ValidRate (B.perDuration (B.bytes (pos n)) w .0)
+rate-valid : (n w : ℕ) → 1 ≤ n → n ≤ B.mostSum → ValidWindow w → ValidRate (B.perDuration (B.bytes (pos n)) w .0)
 unfolding B.perSecs
 rate-valid n w l m h =
     let s = secs-valid w h in
-    let b : In (nat 8) (nat (8 * mostBytes)) (mul (B.asBytesF64 (B.bytes (pos n))) B.bitsPerByte) = mul-in (ofInt-in {lo = nat 1} {hi = nat mostBytes} 1 mostBytes n l m (unfold floats in tt)) (lit-in B.bitsPerByte (unfold floats in tt)) (unfold floats in tt) in
+    let b : In (nat 8) (nat (8 * B.mostSum)) (mul (B.asBytesF64 (B.bytes (pos n))) B.bitsPerByte) = mul-in (ofInt-in {lo = nat 1} {hi = nat B.mostSum} 1 B.mostSum n l m (unfold floats in tt)) (lit-in B.bitsPerByte (unfold floats in tt)) (unfold floats in tt) in
     rw (no-zero (asSecsF64 w) (s .low))
     (record { range = div-in b s (unfold floats in tt); held = div-fits binary64 (mul (B.asBytesF64 (B.bytes (pos n))) B.bitsPerByte) (asSecsF64 w) })
 
@@ -185,7 +184,7 @@ joined sum s elapsed h l k t =
     let n = min (h .bytes + s) (2 ^ 63 - 1) in
     let e : B.addSize sum (B.bytes (pos s)) ≡ B.bytes (pos n) = rw (h .is) (ap B.bytes (added (h .bytes) s)) in
     record {
-      sum = record { bytes = n; is = e; few = leb→le n mostBytes (subst (λ (z : DataSize). T (fewBytes z)) e t) };
+      sum = record { bytes = n; is = e; few = leb→le n B.mostSum (subst (λ (z : DataSize). T (fewBytes z)) e t) };
       empty = λ z. absurd (omega arith);
       elapsed = k;
     }

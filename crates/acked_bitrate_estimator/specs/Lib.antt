@@ -1,6 +1,4 @@
 pub mod AckedBitrateEstimator
-pub mod Known
 pub mod Rows
 pub mod Mean
 pub mod Laws
-pub mod Constants

@@ -2,7 +2,6 @@
 ghost use mathlib.Core.Path.{_≡_};
 ghost use Prim.Native.Nat.{_≤_};
 ghost use Rattle.acked_bitrate_estimator.specs.AckedBitrateEstimator as Acked;
-ghost use Rattle.acked_bitrate_estimator.specs.Known.{estimator, known};
 use bandwidth::Bitrate;
 use bandwidth::DataSize;
 use bandwidth::OptionBitrate;
@@ -21,22 +20,6 @@ pub struct AckedBitrateEstimator {
     pub current_window: u64,
     // The remote instant of the last packet.
     pub last_update: OptionInstant,
-}
-
-// An estimator that has an estimate and a last packet, by plain numbers: an `Option` is taken apart once for a whole report.
-pub struct Known {
-    pub initial_window: u64,
-    pub window: u64,
-    pub estimate: Bitrate,
-    pub estimate_var: f64,
-    pub sum: DataSize,
-    pub current_window: u64,
-    pub last_update: u64,
-}
-
-pub enum OptionKnown {
-    None,
-    Some(Known),
 }
 
 // The bytes of the current window and what of it has elapsed, in ns.
@@ -267,105 +250,21 @@ impl AckedBitrateEstimator {
         }
     }
 
-    pub fn known(self) -> OptionKnown
-        ensures { λ r. ⌜ r ≡ known self ⌝ }
+    // The same value, put together anew, as `OptionInstant::copied`.
+    pub fn copied(self) -> Self
+        ensures { λ r. ⌜ r ≡ self ⌝ }
     {
         let estimate = self.estimate;
         let last_update = self.last_update;
         let sum = self.sum;
-        let OptionBitrate::Some(rate) = estimate else {
-            return OptionKnown::None;
-        };
-        let OptionInstant::Some(last) = last_update else {
-            return OptionKnown::None;
-        };
-        OptionKnown::Some(Known {
+        Self {
             initial_window: self.initial_window,
             window: self.window,
-            estimate: rate,
+            estimate: estimate.copied(),
             estimate_var: self.estimate_var,
             sum,
             current_window: self.current_window,
-            last_update: last,
-        })
-    }
-}
-
-impl Known {
-    pub fn estimator(self) -> AckedBitrateEstimator
-        ensures { λ r. ⌜ r ≡ estimator self ⌝ }
-    {
-        let estimate = self.estimate;
-        let sum = self.sum;
-        AckedBitrateEstimator {
-            initial_window: self.initial_window,
-            window: self.window,
-            estimate: OptionBitrate::Some(estimate),
-            estimate_var: self.estimate_var,
-            sum,
-            current_window: self.current_window,
-            last_update: OptionInstant::Some(self.last_update),
+            last_update: last_update.copied(),
         }
-    }
-
-    // As `AckedBitrateEstimator::filled`.
-    fn filled(self, w: Window, receive_time: u64, packet_size: DataSize) -> Self
-        ensures { λ r. ⌜ estimator r ≡ Acked.filled (estimator self) w «receive_time» «packet_size» ⌝ }
-    {
-        let estimate = self.estimate;
-        let after = w.with_packet(packet_size, self.window);
-        let sum = after.sum;
-        let sample = w.sample(self.window);
-        let OptionSample::Some(rate, is_small) = sample else {
-            return Known {
-                initial_window: self.initial_window,
-                window: self.window,
-                estimate,
-                estimate_var: self.estimate_var,
-                sum,
-                current_window: after.elapsed,
-                last_update: receive_time,
-            };
-        };
-        let weighed = weigh(
-            estimate.as_f64(),
-            self.estimate_var,
-            rate.as_f64(),
-            is_small,
-        );
-        Known {
-            initial_window: self.initial_window,
-            window: self.window,
-            estimate: Bitrate(weighed.estimate),
-            estimate_var: weighed.variance,
-            sum,
-            current_window: after.elapsed,
-            last_update: receive_time,
-        }
-    }
-
-    // As `AckedBitrateEstimator::update`.
-    pub fn update(self, receive_time: u64, packet_size: DataSize) -> Self
-        ensures { λ r. ⌜ estimator r ≡ Acked.update (estimator self) «receive_time» «packet_size» ⌝ }
-    {
-        let estimate = self.estimate;
-        let sum = self.sum;
-        if receive_time < self.last_update {
-            return Known {
-                initial_window: self.initial_window,
-                window: self.window,
-                estimate,
-                estimate_var: self.estimate_var,
-                sum: DataSize::ZERO,
-                current_window: 0,
-                last_update: receive_time,
-            };
-        }
-        let w = Window {
-            sum,
-            elapsed: self.current_window,
-        };
-        let advanced = w.advance(receive_time - self.last_update, self.window);
-        self.filled(advanced, receive_time, packet_size)
     }
 }

@@ -3,7 +3,6 @@ use Prim.Native.Nat.{ℕ, _*_}
 use mathlib.Core.Path.{_≡_, refl}
 use mathlib.Core.Bool.{Bool, true}
 use Rattle.time.specs.Time.{
-  checkedDurationSince,
   saturatingAdd,
   since,
   sinceLimited,
@@ -21,18 +20,16 @@ use Rattle.time.specs.Time.{
   sub,
 }
 use Rattle.time.specs.declared.TimeDelta.the-variants.{Negative, Positive}
-use Rattle.arrival_group.specs.declared.OptionFirst.the-variants as First
+use Rattle.arrival_group.specs.declared.OptionGroup.the-variants as G
 use Rattle.arrival_group.specs.declared.OptionDelta.the-variants as Delta
 use Rattle.arrival_group.specs.declared.Accumulated.{Accumulated}
 use Rattle.arrival_group.specs.ArrivalGroup.{
   accumulatePacket,
   accumulateRounded,
   addPacket,
-  arrivalDelta,
   belongsToGroup,
   delta,
-  departureDelta,
-  latest,
+  new,
   newAccumulator,
   rounded,
   withPacket,
@@ -43,18 +40,18 @@ ms n = n * 1000000
 
 -- opens every definition that the rows below compute
 unfoldable groups : Bool
-unfolding accumulatePacket accumulateRounded addPacket belongsToGroup withPacket latest rounded checkedDurationSince saturatingAdd since sinceLimited limitedInstant exact difference place placeLimited limited positive negative add addLimited neg sub delta departureDelta arrivalDelta
+unfolding accumulatePacket accumulateRounded addPacket belongsToGroup withPacket rounded saturatingAdd since sinceLimited limitedInstant exact difference place placeLimited limited positive negative add addLimited neg sub delta
 groups = true
 
 -- ---- a first packet, and one sent and received so many ms later
 abbrev pub second : ℕ → Accumulated
 second n = accumulatePacket (accumulatePacket newAccumulator 0 0 .accumulator) (ms n) (ms n)
 
-pub five-ms-joins : second 5 .accumulator .«current_group» .first ≡ First.Some 0 0
+pub five-ms-joins : second 5 .accumulator .«current_group» ≡ G.Some (withPacket (new 0 0) (ms 5) (ms 5))
 unfolding groups
 five-ms-joins = refl
 
-pub six-ms-starts-anew : second 6 .accumulator .«current_group» .first ≡ First.Some (ms 6) (ms 6)
+pub six-ms-starts-anew : second 6 .accumulator .«current_group» ≡ G.Some (new (ms 6) (ms 6))
 unfolding groups
 six-ms-starts-anew = refl
 

@@ -2,14 +2,11 @@
 use mathlib.Core.Bool.{Bool, true, false, _&&_, cond}
 use lib.Ieee as Ieee
 use lib.Ieee.{Float}
-use Rattle.float_order.specs.Binary64.{add, sub, mul, lit}
+use Rattle.float_order.specs.Binary64.{add, sub, mul, lit, one}
 use Rattle.sqrt.specs.Sqrt.{sqrt}
 use Rattle.average.specs.declared.OptionF64.{OptionF64}
 use Rattle.average.specs.declared.OptionF64.the-variants.{None, Some}
 use Rattle.average.specs.declared.MovingAverage.{MovingAverage}
-
-abbrev pub one : Float
-one = lit 0x3ff0_0000_0000_0000
 
 abbrev pub new : Float → MovingAverage
 new factor = record { «smoothing_factor» = factor; average = None; variance = lit 0; std = lit 0 }

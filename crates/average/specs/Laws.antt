@@ -7,14 +7,14 @@ use lib.Dec.{T}
 use lib.Ieee.{Float, fin, binary64, le, lt, ofBits, fits}
 use lib.Ieee.Bits.{ofBits-fits}
 use lib.Ieee.Fits.{add-fits, mul-fits}
-use Rattle.float_order.specs.Binary64.{add, sub, mul, lit}
+use Rattle.float_order.specs.Binary64.{add, sub, mul, lit, one}
 use Rattle.float_order.specs.Order.{le-trans}
 use Rattle.float_order.specs.Ops.{zero₊}
 use Rattle.float_order.specs.Range.{In, nat, -nat, in-finite, in-wider, in-closed, lit-in, add-in, sub-in, mul-in, square-in}
 use Rattle.float_order.specs.Interval.{floats}
 use Rattle.sqrt.specs.Sqrt.{sqrt}
 use Rattle.sqrt.specs.Laws.{sqrt-at}
-use Rattle.average.specs.Average.{one, new, newVariance, update, updateFrom, reset}
+use Rattle.average.specs.Average.{new, newVariance, update, updateFrom, reset}
 use Rattle.average.specs.Step.{below-one, step-in}
 use Rattle.average.specs.declared.OptionF64.{OptionF64}
 use Rattle.average.specs.declared.OptionF64.the-variants.{None, Some}
@@ -28,25 +28,6 @@ pub record Limits (factor L : Float) : Type 0 where
   pub factor-in : In eighth below-one factor
   pub limit-in : In zero₊ (nat (10 ^ 14)) L
   pub limit-fits : T (fits binary64 L)
-
--- the two in use: rates to 10 ^ 14 with 0.95, round trips to 10 ^ 9 s with 0.125
-abbrev pub observedBitRateSmoothingFactor : Float
-observedBitRateSmoothingFactor = lit 0x3fee_6666_6666_6666
-
-abbrev pub mostRate : Float
-mostRate = lit 0x42d6_bcc4_1e90_0000
-
-abbrev pub rttSmoothingFactor : Float
-rttSmoothingFactor = lit 0x3fc0_0000_0000_0000
-
-abbrev pub mostRoundTrip : Float
-mostRoundTrip = lit 0x41cd_cd65_0000_0000
-
-pub rates : Limits observedBitRateSmoothingFactor mostRate
-rates = record { factor-in = in-closed (unfold floats in tt); limit-in = in-closed (unfold floats in tt); limit-fits = ofBits-fits binary64 _ }
-
-pub round-trips : Limits rttSmoothingFactor mostRoundTrip
-round-trips = record { factor-in = in-closed (unfold floats in tt); limit-in = in-closed (unfold floats in tt); limit-fits = ofBits-fits binary64 _ }
 
 -- the largest float that is not above 10 ^ 30
 abbrev pub mostVariance : Float

@@ -58,6 +58,9 @@ within b low high = Float.within (low .0) (high .0) (b .0)
 abbrev pub mul : Bitrate → Float → Bitrate
 mul b k = rate (times (b .0) k)
 
+abbrev pub eq : Bitrate → Bitrate → Bool
+eq a b = Ieee.eq (a .0) (b .0)
+
 abbrev pub lt : Bitrate → Bitrate → Bool
 lt a b = Ieee.lt (a .0) (b .0)
 
@@ -66,8 +69,11 @@ abbrev pub bytes : ℤ → DataSize
 bytes n = record { 0 = n }
 
 -- the greatest byte sum of a window
+abbrev pub mostSum : ℕ
+mostSum = 2147483647
+
 abbrev pub mostBytes : DataSize
-mostBytes = bytes (pos 2147483647)
+mostBytes = bytes (pos mostSum)
 
 abbrev pub asBytesF64 : DataSize → Float
 asBytesF64 s = ofInt binary64 (s .0)

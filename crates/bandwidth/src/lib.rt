@@ -79,6 +79,12 @@ impl Bitrate {
         Bitrate(self.0 * factor)
     }
 
+    pub fn eq(self, other: Bitrate) -> bool
+        ensures { λ r. ⌜ r ≡ B.eq self other ⌝ }
+    {
+        self.0 == other.0
+    }
+
     pub fn lt(self, other: Bitrate) -> bool
         ensures { λ r. ⌜ r ≡ B.lt self other ⌝ }
     {

@@ -1,10 +1,12 @@
 -- src/bwe/delay/control.rs: what a report and a timeout do to the delay controller. Times are ns, the smoothed round trip is seconds.
-use Prim.Native.Nat.{ℕ, _*_, max, min}
+use Prim.Native.Nat.{ℕ, _*_, min}
 use mathlib.Core.Bool.{Bool, false, cond}
 use mathlib.Core.List.{List, [], _∷_}
 use lib.Dec.{leb}
 use lib.Ieee.{Float}
-use Rattle.float_order.specs.Binary64.{lit}
+use mathlib.Core.Path.{_≡_, refl}
+use Rattle.float_order.specs.Binary64.{lit, decimal}
+use Rattle.float_order.specs.Interval.{floats}
 use Rattle.seconds.specs.Seconds.{asSecsF64, fromSecsF64}
 use Rattle.average.specs.Average as Average
 use Rattle.average.specs.declared.OptionF64.{OptionF64}
@@ -21,7 +23,6 @@ use Rattle.time.specs.declared.OptionInstant.the-variants as Instant
 use Rattle.time.specs.declared.OptionDuration.{OptionDuration}
 use Rattle.time.specs.declared.OptionDuration.the-variants as Duration
 use Rattle.arrival_group.specs.ArrivalGroup as Group
-use Rattle.arrival_group.specs.declared.ArrivalGroupAccumulator.{ArrivalGroupAccumulator}
 use Rattle.arrival_group.specs.declared.OptionDelta.{OptionDelta}
 use Rattle.arrival_group.specs.declared.OptionDelta.the-variants as Delta
 use Rattle.trendline.specs.Trendline as Trendline
@@ -29,9 +30,9 @@ use Rattle.trendline.specs.declared.TrendlineEstimator.{TrendlineEstimator}
 use Rattle.rate_control.specs.RateControl as RateControl
 use Rattle.rate_control.specs.declared.RateControl as R
 use Rattle.control.specs.declared.DelayController.{DelayController}
-use Rattle.control.specs.declared.Packets.{Packets}
+use Rattle.control.specs.declared.DelayDetector.{DelayDetector}
 
--- ---- constants: 25 ms and 500 ms; the smoothing factor 1/8; the limits of an estimate
+-- ---- constants: 25 ms and 500 ms; the smoothing factor 1/8
 abbrev pub updateInterval : ℕ
 updateInterval = 25000000
 
@@ -41,11 +42,8 @@ maxTwccGap = 500000000
 abbrev pub rttSmoothingFactor : Float
 rttSmoothingFactor = lit 0x3fc0_0000_0000_0000
 
-abbrev pub minEstimate : Bitrate
-minEstimate = B.rate (lit 0x40e3_8800_0000_0000)
-
-abbrev pub maxEstimate : Bitrate
-maxEstimate = B.rate (lit 0x4202_a05f_2000_0000)
+pub rttSmoothingFactor-is : rttSmoothingFactor ≡ decimal 125 1000
+rttSmoothingFactor-is = unfold floats in refl
 
 -- before the first report its age is over any limit, and the next timeout is 0, meaning due
 unfoldable pub new : Bitrate → DelayController
@@ -53,63 +51,36 @@ new initial =
     record {
       «arrival_group_accumulator» = Group.newAccumulator;
       «trendline_estimator» = Trendline.new;
-      «rate_control» = RateControl.new initial minEstimate maxEstimate;
+      «rate_control» = RateControl.new initial B.minEstimate B.maxEstimate;
       «smoothed_rtt» = Average.new rttSmoothingFactor;
       «next_timeout» = 0;
       «last_twcc_report» = Instant.None;
     }
 
--- ---- a report's packets
+-- ---- a report's packets, in two folds over two of its lists; what one list has more is left out
+unfoldable pub fold : {S : Type 0} → (S → ℕ → ℕ → S) → S → List ℕ → List ℕ → S
+fold f s [] ys = s
+fold f s (x ∷ xs) [] = s
+fold f s (x ∷ xs) (y ∷ ys) = fold f (f s x y) xs ys
+
 -- the moment handed to the trendline is the remote one
 abbrev pub observe : OptionDelta → TrendlineEstimator → TrendlineEstimator
 observe Delta.None t = t
 observe (Delta.Some v) t = Trendline.addDelayObservation t v (v .«last_remote_recv_time»)
 
-unfoldable pub add : Packets → ℕ → ℕ → ℕ → Packets
-add p send remote receive =
-    let done = Group.accumulatePacket (p .«arrival_group_accumulator») send remote in
-    record {
-      «arrival_group_accumulator» = done .accumulator;
-      «trendline_estimator» = observe (done .delta) (p .«trendline_estimator»);
-      «max_rtt» = longest (p .«max_rtt») (saturatingDurationSince receive send);
-    }
+abbrev pub addPacket : DelayDetector → ℕ → ℕ → DelayDetector
+addPacket d send remote =
+    let done = Group.accumulatePacket (d .«arrival_group_accumulator») send remote in
+    record { «arrival_group_accumulator» = done .accumulator; «trendline_estimator» = observe (done .delta) (d .«trendline_estimator») }
 
-unfoldable pub addAll : Packets → List ℕ → List ℕ → List ℕ → Packets
-addAll p [] remotes receives = p
-addAll p (s ∷ sends) [] receives = p
-addAll p (s ∷ sends) (r ∷ remotes) [] = p
-addAll p (s ∷ sends) (r ∷ remotes) (l ∷ receives) = addAll (add p s r l) sends remotes receives
+abbrev pub addPackets : DelayDetector → List ℕ → List ℕ → DelayDetector
+addPackets d sends remotes = fold addPacket d sends remotes
 
--- the same in two parts: the groups with the trendline, and the round trips
-abbrev pub packets : ArrivalGroupAccumulator → TrendlineEstimator → OptionDuration → Packets
-packets a t rtt = record { «arrival_group_accumulator» = a; «trendline_estimator» = t; «max_rtt» = rtt }
+abbrev pub addRtt : OptionDuration → ℕ → ℕ → OptionDuration
+addRtt rtt send receive = longest rtt (saturatingDurationSince receive send)
 
-abbrev pub withRtt : Packets → OptionDuration → Packets
-withRtt p rtt = packets (p .«arrival_group_accumulator») (p .«trendline_estimator») rtt
-
-unfoldable pub addGroup : Packets → ℕ → ℕ → Packets
-addGroup p send remote =
-    let done = Group.accumulatePacket (p .«arrival_group_accumulator») send remote in
-    record {
-      «arrival_group_accumulator» = done .accumulator;
-      «trendline_estimator» = observe (done .delta) (p .«trendline_estimator»);
-      «max_rtt» = p .«max_rtt»;
-    }
-
-unfoldable pub addGroups : Packets → List ℕ → List ℕ → Packets
-addGroups p [] remotes = p
-addGroups p (s ∷ sends) [] = p
-addGroups p (s ∷ sends) (r ∷ remotes) = addGroups (addGroup p s r) sends remotes
-
-unfoldable pub longestRtt : ℕ → List ℕ → List ℕ → ℕ
-longestRtt d [] receives = d
-longestRtt d (s ∷ sends) [] = d
-longestRtt d (s ∷ sends) (l ∷ receives) = longestRtt (max d (saturatingDurationSince l s)) sends receives
-
--- the greatest round trip of the packets before and of these, where there is one
-unfoldable pub maxRttAfter : OptionDuration → List ℕ → List ℕ → OptionDuration
-maxRttAfter d [] receives = d
-maxRttAfter d (s ∷ sends) receives = Duration.Some (longestRtt (durationOr d 0) (s ∷ sends) receives)
+abbrev pub maxRtt : List ℕ → List ℕ → OptionDuration
+maxRtt sends receives = fold addRtt Duration.None sends receives
 
 -- ---- the smoothed round trip
 unfoldable pub updateRtt : MovingAverage → OptionDuration → MovingAverage
@@ -135,13 +106,17 @@ withRate c rate next =
       «last_twcc_report» = c .«last_twcc_report»;
     }
 
-unfoldable pub withPackets : DelayController → Packets → ℕ → DelayController
-withPackets c p now =
+abbrev pub detector : DelayController → DelayDetector
+detector c = record { «arrival_group_accumulator» = c .«arrival_group_accumulator»; «trendline_estimator» = c .«trendline_estimator» }
+
+unfoldable pub withPackets : DelayController → List ℕ → List ℕ → List ℕ → ℕ → DelayController
+withPackets c sends remotes receives now =
+    let d = addPackets (detector c) sends remotes in
     record {
-      «arrival_group_accumulator» = p .«arrival_group_accumulator»;
-      «trendline_estimator» = p .«trendline_estimator»;
+      «arrival_group_accumulator» = d .«arrival_group_accumulator»;
+      «trendline_estimator» = d .«trendline_estimator»;
       «rate_control» = c .«rate_control»;
-      «smoothed_rtt» = updateRtt (c .«smoothed_rtt») (p .«max_rtt»);
+      «smoothed_rtt» = updateRtt (c .«smoothed_rtt») (maxRtt sends receives);
       «next_timeout» = c .«next_timeout»;
       «last_twcc_report» = Instant.Some now;
     }
@@ -160,12 +135,8 @@ unfoldable pub updateEstimate : DelayController → OptionBitrate → OptionBitr
 updateEstimate c observed probe now = withRate c (rateAfter probe observed c now) (saturatingAdd now updateInterval)
 
 -- ---- a report
-abbrev pub begin : DelayController → Packets
-begin c = record { «arrival_group_accumulator» = c .«arrival_group_accumulator»; «trendline_estimator» = c .«trendline_estimator»; «max_rtt» = Duration.None }
-
 unfoldable pub update : DelayController → List ℕ → List ℕ → List ℕ → OptionBitrate → OptionBitrate → ℕ → DelayController
-update c sends remotes receives acked probe now =
-    updateEstimate (withPackets c (addAll (begin c) sends remotes receives) now) acked probe now
+update c sends remotes receives acked probe now = updateEstimate (withPackets c sends remotes receives now) acked probe now
 
 -- ---- a timeout: a hypothesis older than twice the round trip, or than 50 ms, waits for the next report
 -- the smoothed round trip, at most 25 ms

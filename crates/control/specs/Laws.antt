@@ -1,5 +1,5 @@
 -- Laws of the delay controller: the next timeout, a probe's estimate, what a call leaves as it was, and the range of the smoothed round trip.
-use Prim.Native.Nat.{ℕ, _-_, _/_, _%_, _^_, _≤_}
+use Prim.Native.Nat.{ℕ, _/_, _%_, _^_, _≤_}
 use native.Mathlib.Omega.{arith}
 use mathlib.Core.Path.{_≡_, refl}
 use mathlib.Core.Bool.{Bool, true, false, cond}
@@ -8,9 +8,11 @@ use lib.Dec.{T, ltb}
 use lib.Ieee.{Float, binary64, div, fits, ofInt}
 use lib.Ieee.Fits.{add-fits}
 use lib.IntN.{pos}
-use Rattle.float_order.specs.Binary64.{lit}
-use Rattle.float_order.specs.Range.{in-wider}
+use lib.Ieee.Bits.{ofBits-fits}
+use Rattle.float_order.specs.Binary64.{lit, decimal}
+use Rattle.float_order.specs.Range.{in-wider, in-closed}
 use Rattle.float_order.specs.Interval.{floats}
+use Rattle.bool_laws.specs.Bools.{chosen}
 use Rattle.seconds.specs.Seconds.{asSecsF64}
 use Rattle.seconds.specs.Laws.{secs-in}
 use Rattle.average.specs.Laws as Average
@@ -24,12 +26,10 @@ use Rattle.time.specs.declared.OptionDuration.{OptionDuration}
 use Rattle.time.specs.declared.OptionDuration.the-variants as Duration
 use Rattle.rate_control.specs.RateControl as RateControl
 use Rattle.control.specs.declared.DelayController.{DelayController}
-use Rattle.control.specs.declared.Packets.{Packets}
 use Rattle.control.specs.Control.{
-  add,
-  addAll,
-  begin,
+  fold,
   handleTimeout,
+  maxRtt,
   rttSmoothingFactor,
   trendlineHypothesisValid,
   update,
@@ -41,13 +41,21 @@ use Rattle.control.specs.Control.{
   withRate,
 }
 
-either : {A : Type 0} (P : A → Type 0) (t : Bool) {x y : A} → P x → P y → P (cond t x y)
-either P true p q = p
-either P false p q = q
-
 pub wait-le : (c : DelayController) → wait c ≤ updateInterval
 unfolding wait
 wait-le c = omega arith
+
+-- ---- a report's packets: what each pair of instants, at most n, keeps, the fold keeps
+abbrev pub Instants : ℕ → List ℕ → List ℕ → Type 0
+Instants n [] ys = Unit {0}
+Instants n (x ∷ xs) [] = Unit {0}
+Instants n (x ∷ xs) (y ∷ ys) = (x ≤ n) × (y ≤ n) × Instants n xs ys
+
+pub fold-keeps : {S : Type 0} {f : S → ℕ → ℕ → S} {n : ℕ} (P : S → Type 0) → ((s : S) (x y : ℕ) → P s → x ≤ n → y ≤ n → P (f s x y)) → {s : S} (xs ys : List ℕ) → Instants n xs ys → P s → P (fold f s xs ys)
+unfolding fold
+fold-keeps P k [] ys h p = p
+fold-keeps P k (x ∷ xs) [] h p = p
+fold-keeps P k {s} (x ∷ xs) (y ∷ ys) h p = fold-keeps P k xs ys (h .2) (k s x y p (h .0) (h .1))
 
 -- ---- a report
 module _ (c : DelayController) (sends remotes receives : List ℕ) (acked : OptionBitrate) (now : ℕ) where
@@ -69,23 +77,23 @@ pub record Unmeasured (before after : DelayController) : Type 0 where
 
 -- a report of no packets measures nothing
 pub update-none : (c : DelayController) (remotes receives : List ℕ) (acked probe : OptionBitrate) (now : ℕ) → Unmeasured c (update c [] remotes receives acked probe now)
-unfolding update updateEstimate withRate withPackets addAll updateRtt
+unfolding update updateEstimate withRate withPackets fold updateRtt
 update-none c remotes receives acked probe now = record { groups = refl; trendline = refl; smoothed = refl }
 
 -- ---- a timeout measures nothing, is no report, and asks for the next one within 25 ms
 module _ (c : DelayController) (acked : OptionBitrate) (now : ℕ) where
   pub timeout-none : Unmeasured c (handleTimeout c acked now)
   unfolding handleTimeout updateEstimate withRate
-  timeout-none = either (Unmeasured c) (trendlineHypothesisValid c now) (record { groups = refl; trendline = refl; smoothed = refl }) (record { groups = refl; trendline = refl; smoothed = refl })
+  timeout-none = chosen (Unmeasured c) (trendlineHypothesisValid c now) (record { groups = refl; trendline = refl; smoothed = refl }) (record { groups = refl; trendline = refl; smoothed = refl })
 
   pub timeout-report : handleTimeout c acked now .«last_twcc_report» ≡ c .«last_twcc_report»
   unfolding handleTimeout updateEstimate withRate
-  timeout-report = either (λ (a : DelayController). a .«last_twcc_report» ≡ c .«last_twcc_report») (trendlineHypothesisValid c now) refl refl
+  timeout-report = chosen (λ (a : DelayController). a .«last_twcc_report» ≡ c .«last_twcc_report») (trendlineHypothesisValid c now) refl refl
 
   pub timeout-timeout : handleTimeout c acked now .«next_timeout» ≤ saturatingAdd now updateInterval
   unfolding handleTimeout updateEstimate withRate saturatingAdd
   timeout-timeout =
-      either (λ (a : DelayController). a .«next_timeout» ≤ saturatingAdd now updateInterval) (trendlineHypothesisValid c now) (omega arith) (omega (arith, wait-le c))
+      chosen (λ (a : DelayController). a .«next_timeout» ≤ saturatingAdd now updateInterval) (trendlineHypothesisValid c now) (omega arith) (omega (arith, wait-le c))
 
 -- ---- the smoothed round trip
 abbrev pub AtMost : ℕ → OptionDuration → Type 0
@@ -95,27 +103,23 @@ AtMost n (Duration.Some d) = d ≤ n
 pub longest-most : {n rtt : ℕ} (d : OptionDuration) → AtMost n d → rtt ≤ n → AtMost n (longest d rtt)
 unfolding longest
 longest-most Duration.None h k = k
-longest-most {n} {rtt} (Duration.Some d) h k = either (λ x. x ≤ n) (ltb d rtt) k h
+longest-most {n} {rtt} (Duration.Some d) h k = chosen (λ x. x ≤ n) (ltb d rtt) k h
 
--- each packet's round trip, by its send and its local receive instant, is at most n
-abbrev pub RoundTrips : ℕ → List ℕ → List ℕ → Type 0
-RoundTrips n [] receives = Unit {0}
-RoundTrips n (s ∷ sends) [] = Unit {0}
-RoundTrips n (s ∷ sends) (l ∷ receives) = (l - s ≤ n) × RoundTrips n sends receives
-
-pub add-all-most : (n : ℕ) (p : Packets) (sends remotes receives : List ℕ) → RoundTrips n sends receives → AtMost n (p .«max_rtt») → AtMost n (addAll p sends remotes receives .«max_rtt»)
-unfolding addAll add
-add-all-most n p [] remotes receives h k = k
-add-all-most n p (s ∷ sends) [] receives h k = k
-add-all-most n p (s ∷ sends) (r ∷ remotes) [] h k = k
-add-all-most n p (s ∷ sends) (r ∷ remotes) (l ∷ receives) h k = add-all-most n (add p s r l) sends remotes receives (h .1) (longest-most (p .«max_rtt») k (h .0))
+pub max-rtt-most : (n : ℕ) (sends receives : List ℕ) → Instants n sends receives → AtMost n (maxRtt sends receives)
+max-rtt-most n sends receives h = fold-keeps (AtMost n) (λ d s l g i j. longest-most d g (omega arith)) sends receives h tt
 
 -- 10 ^ 9 seconds
-abbrev pub mostRtt : Float
-mostRtt = lit 0x41cd_cd65_0000_0000
+abbrev pub mostRoundTrip : Float
+mostRoundTrip = lit 0x41cd_cd65_0000_0000
+
+pub mostRoundTrip-is : mostRoundTrip ≡ decimal (10 ^ 9) 1
+mostRoundTrip-is = unfold floats in refl
+
+trips : Average.Limits rttSmoothingFactor mostRoundTrip
+trips = record { factor-in = in-closed (unfold floats in tt); limit-in = in-closed (unfold floats in tt); limit-fits = ofBits-fits binary64 _ }
 
 abbrev pub KeptRtt : MovingAverage → Type 0
-KeptRtt m = Average.Kept rttSmoothingFactor mostRtt m
+KeptRtt m = Average.Kept rttSmoothingFactor mostRoundTrip m
 
 secs-fits : (n : ℕ) → T (fits binary64 (asSecsF64 n))
 unfolding asSecsF64
@@ -126,10 +130,10 @@ pub update-rtt-kept : {m : MovingAverage} (d : OptionDuration) → AtMost (10 ^ 
 unfolding updateRtt
 update-rtt-kept Duration.None h k = k
 update-rtt-kept (Duration.Some d) h k =
-    Average.update-kept Average.round-trips (in-wider (secs-in d (10 ^ 18) h (omega arith)) (unfold asSecsF64 floats in tt)) (secs-fits d) k
+    Average.update-kept trips (in-wider (secs-in d (10 ^ 18) h (omega arith)) (unfold asSecsF64 floats in tt)) (secs-fits d) k
 
-pub update-kept : (c : DelayController) (sends remotes receives : List ℕ) (acked probe : OptionBitrate) (now : ℕ) → RoundTrips (10 ^ 18) sends receives → KeptRtt (c .«smoothed_rtt»)
+pub update-kept : (c : DelayController) (sends remotes receives : List ℕ) (acked probe : OptionBitrate) (now : ℕ) → Instants (10 ^ 18) sends receives → KeptRtt (c .«smoothed_rtt»)
     → KeptRtt (update c sends remotes receives acked probe now .«smoothed_rtt»)
 unfolding update updateEstimate withRate withPackets
 update-kept c sends remotes receives acked probe now h k =
-    update-rtt-kept (addAll (begin c) sends remotes receives .«max_rtt») (add-all-most (10 ^ 18) (begin c) sends remotes receives h tt) k
+    update-rtt-kept (maxRtt sends receives) (max-rtt-most (10 ^ 18) sends receives h) k

@@ -2,12 +2,9 @@
 // consulted and is left out, and so is its copy of the last estimate, which is always the rate control's.
 ghost use mathlib.Core.Path.{_≡_};
 ghost use Prim.Native.Nat.{min};
-ghost use Rattle.arrival_group.specs.Groups.{accumulator};
 ghost use Rattle.control.specs.Control as Control;
 use arrival_group::ArrivalGroupAccumulator;
-use arrival_group::Groups;
 use arrival_group::OptionDelta;
-use arrival_group::OptionGroups;
 use average::MovingAverage;
 use average::OptionF64;
 use bandwidth::BandwidthUsage;
@@ -35,54 +32,16 @@ pub struct DelayController {
     pub last_twcc_report: OptionInstant,
 }
 
-// What a report's packets feed: the groups, the trendline, and the greatest round trip.
-pub struct Packets {
+// What a report's packets go through: the groups, and the trendline of the delays between them.
+pub struct DelayDetector {
     pub arrival_group_accumulator: ArrivalGroupAccumulator,
     pub trendline_estimator: TrendlineEstimator,
-    pub max_rtt: OptionDuration,
 }
 
 // What a timeout changes of a controller.
 struct Timed {
     rate_control: RateControl,
     next_timeout: u64,
-}
-
-// The longest of a duration and of the packets' round trips.
-fn longest_rtt(duration: u64, local_send_times: &[u64], local_recv_times: &[u64]) -> u64
-    ensures { λ r. ⌜ r ≡ Control.longestRtt duration (now («local_send_times» .entry)) (now («local_recv_times» .entry)) ⌝ }
-{
-    let mut longest = duration;
-    let mut i = 0;
-    while i < local_send_times.len() {
-        if local_recv_times.len() <= i {
-            return longest;
-        }
-        let rtt = time::saturating_duration_since(local_recv_times[i], local_send_times[i]);
-        if longest < rtt {
-            longest = rtt;
-        }
-        i += 1;
-    }
-    longest
-}
-
-// The greatest round trip of the packets before and of these, where there is one.
-fn max_rtt_after(
-    max_rtt: OptionDuration,
-    local_send_times: &[u64],
-    local_recv_times: &[u64],
-) -> OptionDuration
-    ensures { λ r. ⌜ r ≡ Control.maxRttAfter «max_rtt» (now («local_send_times» .entry)) (now («local_recv_times» .entry)) ⌝ }
-{
-    if local_send_times.len() == 0 {
-        return max_rtt;
-    }
-    OptionDuration::Some(longest_rtt(
-        time::duration_or(max_rtt, 0),
-        local_send_times,
-        local_recv_times,
-    ))
 }
 
 fn shorter(a: usize, b: usize) -> usize
@@ -94,57 +53,36 @@ fn shorter(a: usize, b: usize) -> usize
     b
 }
 
-// The groups and the trendline after packets in the order of receipt, as two lists; what one list has more is left out. The greatest round
-// trip is given.
-fn add_plain(
-    taken: Groups,
-    trendline_estimator: TrendlineEstimator,
-    max_rtt: OptionDuration,
-    local_send_times: &[u64],
-    remote_recv_times: &[u64],
-) -> Packets
-    ensures { λ r. ⌜ r ≡ Control.addGroups (Control.packets (accumulator taken) «trendline_estimator» «max_rtt») (now («local_send_times» .entry)) (now («remote_recv_times» .entry)) ⌝ }
+// The greatest round trip of a report's packets, where there is one; what one list has more is left out.
+fn max_rtt(local_send_times: &[u64], local_recv_times: &[u64]) -> OptionDuration
+    ensures { λ r. ⌜ r ≡ Control.maxRtt (now («local_send_times» .entry)) (now («local_recv_times» .entry)) ⌝ }
 {
-    let mut groups = taken;
-    let mut trendline = trendline_estimator;
-    let n = shorter(local_send_times.len(), remote_recv_times.len());
+    let mut max_rtt = OptionDuration::None;
+    let n = shorter(local_send_times.len(), local_recv_times.len());
     let mut i = 0;
     while i < n {
-        let local_send_time = local_send_times[i];
-        let done = groups.accumulate_packet(local_send_time, remote_recv_times[i]);
-        groups = done.groups;
-        let delta = done.delta;
-        if let OptionDelta::Some(variation) = delta {
-            trendline = trendline.add_delay_observation(variation, variation.last_remote_recv_time);
-        }
+        let rtt = time::saturating_duration_since(local_recv_times[i], local_send_times[i]);
+        max_rtt = time::longest(max_rtt, rtt);
         i += 1;
     }
-    let arrival_group_accumulator = groups.accumulator();
-    Packets {
-        arrival_group_accumulator,
-        trendline_estimator: trendline,
-        max_rtt,
-    }
+    max_rtt
 }
 
-impl Packets {
-    // As `add_plain`, for any accumulator.
-    fn add_each(
-        self,
-        max_rtt: OptionDuration,
-        local_send_times: &[u64],
-        remote_recv_times: &[u64],
-    ) -> Self
-        ensures { λ r. ⌜ r ≡ Control.addGroups (Control.withRtt self «max_rtt») (now («local_send_times» .entry)) (now («remote_recv_times» .entry)) ⌝ }
+impl DelayDetector {
+    // A report's packets in the order of receipt; what one list has more is left out.
+    fn add_packets(self, local_send_times: &[u64], remote_recv_times: &[u64]) -> Self
+        ensures { λ r. ⌜ r ≡ Control.addPackets self (now («local_send_times» .entry)) (now («remote_recv_times» .entry)) ⌝ }
     {
         let mut accumulator = self.arrival_group_accumulator;
         let mut trendline = self.trendline_estimator;
         let n = shorter(local_send_times.len(), remote_recv_times.len());
         let mut i = 0;
         while i < n {
-            let done = accumulator.accumulate_packet(local_send_times[i], remote_recv_times[i]);
-            accumulator = done.accumulator;
+            let local_send_time = local_send_times[i];
+            let done = accumulator.accumulate_packet(local_send_time, remote_recv_times[i]);
+            let after = done.accumulator;
             let delta = done.delta;
+            accumulator = after.copied();
             if let OptionDelta::Some(variation) = delta {
                 trendline = trendline.add_delay_observation(
                     variation,
@@ -156,50 +94,7 @@ impl Packets {
         Self {
             arrival_group_accumulator: accumulator,
             trendline_estimator: trendline,
-            max_rtt,
         }
-    }
-
-    // By plain numbers where the accumulator has two groups.
-    fn add_groups(
-        self,
-        max_rtt: OptionDuration,
-        local_send_times: &[u64],
-        remote_recv_times: &[u64],
-    ) -> Self
-        ensures { λ r. ⌜ r ≡ Control.addGroups (Control.withRtt self «max_rtt») (now («local_send_times» .entry)) (now («remote_recv_times» .entry)) ⌝ }
-    {
-        let accumulator = self.arrival_group_accumulator;
-        let trendline = self.trendline_estimator;
-        let taken = accumulator.groups();
-        let OptionGroups::Some(groups) = taken else {
-            return self.add_each(max_rtt, local_send_times, remote_recv_times);
-        };
-        add_plain(
-            groups,
-            trendline,
-            max_rtt,
-            local_send_times,
-            remote_recv_times,
-        )
-    }
-
-    // A report's packets in the order of receipt, as three lists; what one list has more is left out.
-    fn add_all(
-        self,
-        local_send_times: &[u64],
-        remote_recv_times: &[u64],
-        local_recv_times: &[u64],
-    ) -> Self
-        ensures { λ r. ⌜ r ≡ Control.addAll self (now («local_send_times» .entry)) (now («remote_recv_times» .entry)) (now («local_recv_times» .entry)) ⌝ }
-    {
-        let n = shorter(
-            shorter(local_send_times.len(), remote_recv_times.len()),
-            local_recv_times.len(),
-        );
-        let before = self.max_rtt;
-        let max_rtt = max_rtt_after(before, &local_send_times[0..n], &local_recv_times[0..n]);
-        self.add_groups(max_rtt, &local_send_times[0..n], &remote_recv_times[0..n])
     }
 }
 
@@ -301,17 +196,15 @@ impl DelayController {
     {
         let arrival_group_accumulator = self.arrival_group_accumulator;
         let trendline_estimator = self.trendline_estimator;
-        let packets = Packets {
+        let detector = DelayDetector {
             arrival_group_accumulator,
             trendline_estimator,
-            max_rtt: OptionDuration::None,
         };
-        let fed = packets.add_all(local_send_times, remote_recv_times, local_recv_times);
-        let arrival_group_accumulator = fed.arrival_group_accumulator;
-        let trendline_estimator = fed.trendline_estimator;
-        let max_rtt = fed.max_rtt;
+        let detector = detector.add_packets(local_send_times, remote_recv_times);
+        let arrival_group_accumulator = detector.arrival_group_accumulator;
+        let trendline_estimator = detector.trendline_estimator;
         let smoothed = self.smoothed_rtt;
-        let smoothed_rtt = update_rtt(smoothed, max_rtt);
+        let smoothed_rtt = update_rtt(smoothed, max_rtt(local_send_times, local_recv_times));
         let rate = self.rate_control;
         let rate_control = rate_from(
             probe_bitrate,

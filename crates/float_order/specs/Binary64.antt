@@ -26,3 +26,15 @@ decimal n d = Ieee.round binary64 false n d
 
 pub zero-is : lit 0 ≡ decimal 0 1
 zero-is = unfold Ieee.ofBits Ieee.round in refl
+
+abbrev pub one : Float
+one = lit 0x3ff0_0000_0000_0000
+
+pub one-is : one ≡ decimal 1 1
+one-is = unfold Ieee.ofBits Ieee.round in refl
+
+abbrev pub thousand : Float
+thousand = lit 0x408f_4000_0000_0000
+
+pub thousand-is : thousand ≡ decimal 1000 1
+thousand-is = unfold Ieee.ofBits Ieee.round in refl

@@ -1,32 +1,29 @@
 // Numbers in bytes, the least significant byte first. What lies past a slice's end counts as 0.
 ghost use mathlib.Core.Path.{_≡_};
-ghost use Prim.Native.Nat.{_+_, _≤_, _<_, _^_};
-ghost use lib.ListN.{getD};
+ghost use Prim.Native.Nat.{_≤_, _<_, _^_};
+ghost use lib.ListN.{getD, length};
 ghost use Rattle.le_bytes.specs.LeBytes.{le};
 
-// The byte of s at place at + i.
-fn byte(s: &[u8], at: usize, i: usize) -> u8
-    ensures { λ r. ⌜ r ≡ getD (now (s .entry)) (at + i) 0 ⌝ }
+// The byte of s at a place.
+pub fn read_u8(s: &[u8], at: usize) -> u8
+    ensures { λ r. ⌜ r ≡ getD (now (s .entry)) at 0 ⌝ }
 {
-    if s.len() <= at {
-        return 0;
+    if at < s.len() {
+        return s[at];
     }
-    if s.len() - at <= i {
-        return 0;
-    }
-    s[at + i]
+    0
 }
 
 // The number in the n bytes of s from place at on.
 fn number(s: &[u8], at: usize, n: usize) -> u64
-    requires { ⌜ n ≤ 8 ⌝ }
+    requires { ⌜ (n ≤ 8) × (at ≤ length (now s)) ⌝ }
     ensures { λ r. ⌜ (r ≡ le n (now (s .entry)) at) × (r < 256 ^ n) ⌝ }
 {
     let mut v: u64 = 0;
     let mut i = n;
     while 0 < i {
         i -= 1;
-        v = v * 256 + byte(s, at, i) as u64;
+        v = v * 256 + read_u8(s, at + i) as u64;
     }
     v
 }

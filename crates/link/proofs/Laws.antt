@@ -5,8 +5,8 @@ use native.Mathlib.Omega.{arith}
 use mathlib.Core.Path.{_≡_, refl, ap, sym, _∙_}
 use mathlib.Core.Bool.{Bool, true, false, _&&_, and-assoc, and-true}
 use mathlib.Core.List.{List, [], _∷_}
-use lib.ListN.{length, length-drop, take, drop, drop-of-length-le, getD}
-use lib.Seq.{drop-cons, take-all}
+use lib.ListN.{length, take, drop, drop-of-length-le, getD}
+use lib.Seq.{drop-cons}
 use Rattle.bandwidth.specs.declared.Bitrate.{Bitrate}
 use Rattle.bandwidth.specs.declared.DataSize.{DataSize}
 use Rattle.bandwidth.specs.declared.OptionBitrate.{OptionBitrate}
@@ -42,7 +42,7 @@ use Rattle.link.specs.Link.{
   timedOut,
   turnedDown,
 }
-use Rattle.link.specs.Laws.{judged-number, judged-taken}
+use Rattle.link.specs.Laws.{judged-number, judged-taken, outcome-refused}
 use Rattle.link.specs.declared.Judged.{Judged}
 
 -- what is left of a report's packets gives what all of them give
@@ -61,13 +61,6 @@ module _ (a : AckedBitrateEstimator) (remotes sizes : List ℕ) (i : ℕ) (hr : 
   sums-turn : sumsIn a (drop i remotes) (drop i sizes) ≡ (bytesIn (next .sum) && sumsIn next (drop (i + 1) remotes) (drop (i + 1) sizes))
   unfolding sumsIn
   sums-turn = rw (add-one, drop-cons remotes i 0, drop-cons sizes i 0)
-
--- a list from place i on, as a part that is lent
-abbrev rest : List ℕ → ℕ → List ℕ
-rest xs i = take (length xs - i) (drop i xs)
-
-rest-drop : (xs : List ℕ) (i : ℕ) → rest xs i ≡ drop i xs
-rest-drop xs i = take-all (length xs - i) (drop i xs) (omega (arith, length-drop i xs))
 
 no-sizes : (a : AckedBitrateEstimator) (remotes : List ℕ) → (acknowledge a remotes [] ≡ a) × (sumsIn a remotes [] ≡ true)
 unfolding acknowledge sumsIn
@@ -92,11 +85,6 @@ module _ {remotes sizes : List ℕ} {first a : AckedBitrateEstimator} {yet : Boo
 
   pub sizes-end : length sizes ≤ i → (a ≡ acknowledge first remotes sizes) × (yet ≡ sumsIn first remotes sizes)
   sizes-end h = end (rw (drop-of-length-le sizes h) (no-sizes a (drop i remotes) .0)) (rw (drop-of-length-le sizes h) (no-sizes a (drop i remotes) .1))
-
-  -- the rest of both lists at once, by an estimator that is the same
-  pub left-rest : {b after : AckedBitrateEstimator} {sums : Bool} → b ≡ a → after ≡ acknowledge b (rest remotes i) (rest sizes i) → sums ≡ sumsIn b (rest remotes i) (rest sizes i)
-      → (after ≡ acknowledge first remotes sizes) × ((yet && sums) ≡ sumsIn first remotes sizes)
-  left-rest e ea es = (rw (e, rest-drop remotes i, rest-drop sizes i) at ea ∙ left .acked, rw (rw (e, rest-drop remotes i, rest-drop sizes i) at es) (left .sums))
 
 -- what is gathered of a list by the order of receipt: room for all packets, and its front
 module _ (sequences sizes sends remotes receives : List ℕ) (y4 : listsIn sequences sizes sends remotes receives ≡ true)
@@ -177,12 +165,7 @@ module _ (a : AckedBitrateEstimator) (r : Report) where
 -- ---- a timeout by its first no
 module _ (l : Link) (now : ℕ) where
   pub timed-refused : (q : Refusal) → number q ≡ firstNo (ofTimeout now) → refusedBy (number q) l ≡ outcomeUnless (firstNo (ofTimeout now)) l (timedOut l now)
-  unfolding outcomeUnless
-  timed-refused q e = rw (sym e) (go (number q) (number-above q))
-    where
-      go : (n : ℕ) → 0 < n → refusedBy n l ≡ outcomeUnless n l (timedOut l now)
-      go zero h = absurd (omega arith)
-      go (suc n) h = refl
+  timed-refused q e = rw (sym e) (sym (outcome-refused l (timedOut l now) (number q) (number-above q)))
 
   pub timed-taken : {rate : OptionBitrate} {control : DelayController} → 0 ≡ firstNo (ofTimeout now) → rate ≡ l .acked .estimate
       → control ≡ Control.handleTimeout (l .control) rate now → acceptedWith (record { acked = l .acked; control = control }) ≡ outcomeUnless (firstNo (ofTimeout now)) l (timedOut l now)

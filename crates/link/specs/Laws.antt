@@ -42,6 +42,12 @@ pub opening-yes : (start : Bitrate) (initial window : ℕ) → startIn start ≡
 unfolding opening ofOpening firstNo
 opening-yes start initial window y2 y3 = rw (y2, y3)
 
+-- a number that is not 0 refuses a call
+pub outcome-refused : (before after : Link) (n : ℕ) → 0 < n → outcomeUnless n before after ≡ refusedBy n before
+unfolding outcomeUnless
+outcome-refused before after zero h = absurd (omega arith)
+outcome-refused before after (suc n) h = refl
+
 -- ---- report
 module _ (l : Link) (r : Report) where
   pub report-1 : inRange l ≡ false → report l r ≡ refusedBy 1 l
@@ -99,12 +105,7 @@ module _ (a : AckedBitrateEstimator) (r : Report) where
 -- a report in the order of receipt by its judgement
 module _ (l : Link) (r : Report) where
   pub in-order-refused : {n : ℕ} → firstNoInOrder (l .acked) r ≡ n → 0 < n → reportInOrder l r ≡ refusedBy n l
-  unfolding outcomeUnless
-  in-order-refused {n} e h = rw e (go n h)
-    where
-      go : (m : ℕ) → 0 < m → outcomeUnless m l (updated l r) ≡ refusedBy m l
-      go zero h = absurd (omega arith)
-      go (suc m) h = refl
+  in-order-refused {n} e h = rw e (outcome-refused l (updated l r) n h)
 
   pub in-order-taken : {acked : AckedBitrateEstimator} {control : DelayController} {rate : OptionBitrate} → firstNoInOrder (l .acked) r ≡ 0
       → acked ≡ acknowledge (l .acked) (r .remotes) (r .sizes) → rate ≡ acked .estimate

@@ -2,13 +2,10 @@
 // turns down gives that question's answer and the link as it came in.
 ghost use mathlib.Core.Path.{_≡_};
 ghost use mathlib.Core.Bool.{true};
-ghost use Rattle.acked_bitrate_estimator.specs.Known.{estimator};
 ghost use Rattle.questions.specs.Questions.{number, report-of};
 ghost use Rattle.link_state.specs.State.{inRange};
 ghost use Rattle.link.specs.Link as Calls;
 use acked_bitrate_estimator::AckedBitrateEstimator;
-use acked_bitrate_estimator::Known;
-use acked_bitrate_estimator::OptionKnown;
 use bandwidth::BandwidthUsage;
 use bandwidth::Bitrate;
 use bandwidth::DataSize;
@@ -113,28 +110,6 @@ fn data_size(n: u64) -> DataSize
     DataSize(n as i64)
 }
 
-// A report to an estimator that has an estimate and a last packet.
-fn acknowledge_known(known: Known, remotes: &[u64], sizes: &[u64]) -> Acknowledged
-    ensures { λ r. ⌜ (r .acked ≡ Calls.acknowledge (estimator known) (now (remotes .entry)) (now (sizes .entry)))
-        × (r .«sums_in» ≡ Calls.sumsIn (estimator known) (now (remotes .entry)) (now (sizes .entry))) ⌝ }
-{
-    let mut known = known;
-    let mut sums_in = true;
-    let mut i = 0;
-    while i < remotes.len() {
-        if sizes.len() <= i {
-            let acked = known.estimator();
-            return Acknowledged { acked, sums_in };
-        }
-        known = known.update(remotes[i], data_size(sizes[i]));
-        let sum = known.sum;
-        sums_in = sums_in & questions::bytes_in(sum);
-        i += 1;
-    }
-    let acked = known.estimator();
-    Acknowledged { acked, sums_in }
-}
-
 // Question 9 and the estimator that it asks of, for packets in the order of receipt.
 fn acknowledge(acked: AckedBitrateEstimator, remotes: &[u64], sizes: &[u64]) -> Acknowledged
     ensures { λ r. ⌜ (r .acked ≡ Calls.acknowledge acked (now (remotes .entry)) (now (sizes .entry)))
@@ -147,16 +122,7 @@ fn acknowledge(acked: AckedBitrateEstimator, remotes: &[u64], sizes: &[u64]) -> 
         if sizes.len() <= i {
             return Acknowledged { acked, sums_in };
         }
-        let taken = acked.known();
-        if let OptionKnown::Some(known) = taken {
-            let rest = acknowledge_known(known, &remotes[i..], &sizes[i..]);
-            let acked = rest.acked;
-            return Acknowledged {
-                acked,
-                sums_in: sums_in & rest.sums_in,
-            };
-        }
-        acked = acked.update(remotes[i], data_size(sizes[i]));
+        acked = acked.update(remotes[i], data_size(sizes[i])).copied();
         let sum = acked.sum;
         sums_in = sums_in & questions::bytes_in(sum);
         i += 1;
@@ -184,15 +150,7 @@ pub fn judge_report(
 ) -> Judged
     ensures { λ r. ⌜ Calls.judged r ≡ Calls.judgeReport acked (report-of (now (sequences .entry)) (now (sizes .entry)) (now (sends .entry)) (now (remotes .entry)) (now (receives .entry)) probe moment) ⌝ }
 {
-    let refusal = questions::report(
-        sequences,
-        sizes,
-        sends,
-        remotes,
-        receives,
-        probe,
-        moment,
-    );
+    let refusal = questions::report(sequences, sizes, sends, remotes, receives, probe, moment);
     if let OptionRefusal::Some(question) = refusal {
         return Judged {
             refusal: OptionRefusal::Some(question),

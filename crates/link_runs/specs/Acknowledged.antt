@@ -5,6 +5,7 @@ use mathlib.Core.Path.{_≡_}
 use mathlib.Core.Bool.{true}
 use mathlib.Core.List.{List, [], _∷_}
 use lib.Signed.{ltZ-no}
+use Rattle.bool_laws.specs.Bools.{both, holds}
 use Rattle.bandwidth.specs.Bandwidth.{mostBytes}
 use Rattle.rate_control.specs.Laws.{InstantAtMost}
 use Rattle.acked_bitrate_estimator.specs.AckedBitrateEstimator.{new, update}
@@ -13,7 +14,6 @@ use Rattle.acked_bitrate_estimator.specs.declared.AckedBitrateEstimator.{AckedB
 use Rattle.receive_order.specs.Lists.{All}
 use Rattle.questions.specs.Questions.{bytesIn, mostInstant}
 use Rattle.link.specs.Link.{acknowledge, dataSize, sumsIn}
-use Rattle.link_runs.specs.Tests.{both, holds}
 
 pub record GoodAcked (a : AckedBitrateEstimator) : Type 0 where
   pub reached : Reached a

@@ -7,7 +7,7 @@ use mathlib.Core.List.{List, [], _∷_}
 use borrow.Author.Tests.{leb-true}
 use lib.Dec.{leb}
 use lib.ListN.{length}
-use Rattle.control.specs.Laws.{RoundTrips}
+use Rattle.control.specs.Laws.{Instants}
 use Rattle.receive_order.specs.Lists.{All, all-map}
 use Rattle.receive_order.specs.Laws.{ordered-all}
 use Rattle.questions.specs.Questions.{Question, Report, allAtLeast, allAtMost, firstNo, inOrder, ofReport, ofTimeout, ordered}
@@ -61,7 +61,7 @@ at-least n xs e = all-map (λ x. leb-true n x) xs (every-all (λ x. leb n x) xs 
 pub in-order : (r : Report) (P : ℕ → Type 0) (xs : List ℕ) → length xs ≡ length (r .sequences) → All P xs → All P (inOrder r xs)
 in-order r P xs e h = ordered-all (r .remotes) (r .sends) (r .sequences) xs P (omega arith) h
 
-pub round-trips : (n : ℕ) (sends receives : List ℕ) → All (λ t. t ≤ n) receives → RoundTrips n sends receives
-round-trips n [] receives h = tt
-round-trips n (s ∷ sends) [] h = tt
-round-trips n (s ∷ sends) (l ∷ receives) h = (omega arith, round-trips n sends receives (h .1))
+pub instants : (n : ℕ) (xs ys : List ℕ) → All (λ t. t ≤ n) xs → All (λ t. t ≤ n) ys → Instants n xs ys
+instants n [] ys h k = tt
+instants n (x ∷ xs) [] h k = tt
+instants n (x ∷ xs) (y ∷ ys) h k = (h .0, k .0, instants n xs ys (h .1) (k .1))

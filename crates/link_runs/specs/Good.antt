@@ -18,21 +18,21 @@ use Rattle.average.specs.Laws.{AverageIn}
 use Rattle.average.specs.Laws as Average
 use Rattle.average.specs.declared.OptionF64.{OptionF64}
 use Rattle.average.specs.declared.OptionF64.the-variants as F64
-use Rattle.bandwidth.specs.Bandwidth.{mostRate}
+use Rattle.bandwidth.specs.Bandwidth.{minEstimate, maxEstimate, mostRate}
 use Rattle.bandwidth.specs.declared.Bitrate.{Bitrate}
 use Rattle.bandwidth.specs.declared.OptionBitrate.{OptionBitrate}
 use Rattle.bandwidth.specs.declared.OptionBitrate.the-variants as Rate
 use Rattle.time.specs.Time.{saturatingAdd}
 use Rattle.acked_bitrate_estimator.specs.Laws.{ValidEstimate, ValidRate, ValidWindow}
 use Rattle.acked_bitrate_estimator.specs.declared.AckedBitrateEstimator.{AckedBitrateEstimator}
-use Rattle.trendline.specs.Cases.{cases}
+use Rattle.bool_laws.specs.Bools.{cases, both, holds}
 use Rattle.rate_control.specs.RateControl as RateControl
 use Rattle.rate_control.specs.Laws as Rates
 use Rattle.rate_control.specs.Laws.{InstantAtMost, DurationAtMost}
 use Rattle.rate_control.specs.declared.RateControl as R
 use Rattle.control.specs.Control as Control
-use Rattle.control.specs.Control.{addAll, begin, getSmoothedRtt, handleTimeout, maxEstimate, minEstimate, rateAfter, rttOf, rttSmoothingFactor, trendlineHypothesisValid, updateEstimate, updateInterval, withPackets, withRate}
-use Rattle.control.specs.Laws.{KeptRtt, mostRtt, timeout-none, timeout-report, timeout-timeout, update-kept}
+use Rattle.control.specs.Control.{detector, getSmoothedRtt, handleTimeout, rateAfter, rttOf, rttSmoothingFactor, trendlineHypothesisValid, updateEstimate, updateInterval, withPackets, withRate}
+use Rattle.control.specs.Laws.{KeptRtt, mostRoundTrip, timeout-none, timeout-report, timeout-timeout, update-kept}
 use Rattle.control.specs.declared.DelayController.{DelayController}
 use Rattle.receive_order.specs.Lists.{All}
 use Rattle.questions.specs.Questions.{Report, allAtMost, firstNo, inOrder, instantsIn, momentIn, mostInstant, ofOpening, ofReport, ofTimeout, ordered, probeIn, windowIn}
@@ -41,12 +41,11 @@ use Rattle.link_state.specs.declared.Link.{Link}
 use Rattle.link.specs.Link.{Outcome, acceptedWith, acknowledge, new, opened, opening, reportQuestions, startedUnless, sumsIn, timedOut, timeoutQuestions, updated}
 use Rattle.link_runs.specs.Statement.{Call, call, run}
 use Rattle.link_runs.specs.Statement.Call.{report, timeout}
-use Rattle.link_runs.specs.Tests.{both, holds}
 use Rattle.link_runs.specs.Acknowledged as Acknowledged
 use Rattle.link_runs.specs.Acknowledged.{GoodAcked, acknowledge-good}
 use Rattle.link_runs.specs.Packets as Packets
 use Rattle.link_runs.specs.Packets.{GoodPackets, packets-good}
-use Rattle.link_runs.specs.Answered.{AllYes, Answered, all-yes, at-least, at-most, in-order, report-answered, round-trips, timeout-answered}
+use Rattle.link_runs.specs.Answered.{AllYes, Answered, all-yes, at-least, at-most, in-order, instants, report-answered, timeout-answered}
 use Rattle.link_runs.specs.Answered.Answered.{turnedDown, taken}
 
 -- the limits are the estimate's, and its statistics are in their ranges
@@ -56,18 +55,18 @@ pub record GoodRate (c : R.RateControl) : Type 0 where
 
 pub record Good (l : Link) : Type 0 where
   pub acked : GoodAcked (l .acked)
-  pub packets : GoodPackets (l .control .«arrival_group_accumulator») (l .control .«trendline_estimator»)
+  pub packets : GoodPackets (detector (l .control))
   pub rate : GoodRate (l .control .«rate_control»)
   pub roundTrip : KeptRtt (l .control .«smoothed_rtt»)
   pub timeout : l .control .«next_timeout» ≤ mostInstant + updateInterval
   pub report : InstantAtMost mostInstant (l .control .«last_twcc_report»)
 
 -- ---- the rate control
-rtt-most : (a : OptionF64) → AverageIn mostRtt a → DurationAtMost mostInstant (rttOf a)
+rtt-most : (a : OptionF64) → AverageIn mostRoundTrip a → DurationAtMost mostInstant (rttOf a)
 rtt-most F64.None h = tt
 rtt-most (F64.Some a) h =
-    let e : fromSecsF64 mostRtt ≡ 10 ^ 18 = unfold fromSecsF64 floats in refl in
-    omega (arith, ns-mono a mostRtt (h .0 .high))
+    let e : fromSecsF64 mostRoundTrip ≡ 10 ^ 18 = unfold fromSecsF64 floats in refl in
+    omega (arith, ns-mono a mostRoundTrip (h .0 .high))
 
 abbrev pub FiniteIfAny : OptionBitrate → Type 0
 FiniteIfAny Rate.None = Unit {0}
@@ -117,11 +116,11 @@ unfolding updated Control.update updateEstimate withRate withPackets saturatingA
 updated-good l r h g =
     let acked = acknowledge-good (l .acked) (r .remotes) (r .sizes) (h .remotes-in) (h .sizes-in) (h .sums-in) (g .acked) in
     let observed = acknowledge (l .acked) (r .remotes) (r .sizes) .estimate in
-    let trips = update-kept (l .control) (r .sends) (r .remotes) (r .receives) observed (r .probe) (r .now) (round-trips mostInstant (r .sends) (r .receives) (h .receives-in)) (g .roundTrip) in
-    let measured = withPackets (l .control) (addAll (begin (l .control)) (r .sends) (r .remotes) (r .receives)) (r .now) in
+    let trips = update-kept (l .control) (r .sends) (r .remotes) (r .receives) observed (r .probe) (r .now) (instants mostInstant (r .sends) (r .receives) (h .sends-in) (h .receives-in)) (g .roundTrip) in
+    let measured = withPackets (l .control) (r .sends) (r .remotes) (r .receives) (r .now) in
     record {
       acked = acked;
-      packets = packets-good (begin (l .control)) (r .sends) (r .remotes) (r .receives) (h .sends-in) (h .remotes-in) (g .packets);
+      packets = packets-good (detector (l .control)) (r .sends) (r .remotes) (instants mostInstant (r .sends) (r .remotes) (h .sends-in) (h .remotes-in)) (g .packets);
       rate = rate-good (r .probe) observed measured (r .now) (h .probe-in) (acked .reached .estimate) (h .now-in) trips (g .rate);
       roundTrip = trips;
       timeout = omega (arith, h .now-in);
@@ -203,7 +202,7 @@ new-good start initial window y =
       acked = Acknowledged.new-good initial window (window-valid initial (w .0)) (window-valid window (w .1));
       packets = Packets.new-good;
       rate = record { sound = Rates.new-sound start (in-wider i (unfold floats in tt)); kept = Rates.new-kept start minEstimate maxEstimate mostInstant mostInstant };
-      roundTrip = Average.new-kept rttSmoothingFactor mostRtt;
+      roundTrip = Average.new-kept rttSmoothingFactor mostRoundTrip;
       timeout = omega arith;
       report = tt;
     }

@@ -16,6 +16,7 @@ use Rattle.float_order.specs.Ops.{zero₊}
 use Rattle.float_order.specs.Range.{In, Within, nat, in-finite, in-ordered, in-wider}
 use Rattle.float_order.specs.Interval.{floats}
 use Rattle.float_order.specs.Gaps.{gap-large}
+use Rattle.bool_laws.specs.Bools.{is-true}
 use Rattle.average.specs.Laws.{AverageIn, std-in}
 use Rattle.average.specs.Laws as Averages
 use Rattle.average.specs.declared.OptionF64.{OptionF64}
@@ -25,6 +26,7 @@ use Rattle.bandwidth.specs.Bandwidth as B
 use Rattle.bandwidth.specs.declared.Bitrate.{Bitrate}
 use Rattle.bandwidth.specs.declared.OptionBitrate.{OptionBitrate}
 use Rattle.bandwidth.specs.declared.OptionBitrate.the-variants as Rate
+use Rattle.time.specs.Time.{instantOr}
 use Rattle.time.specs.declared.OptionInstant.{OptionInstant}
 use Rattle.time.specs.declared.OptionInstant.the-variants as Instant
 use Rattle.time.specs.declared.OptionDuration.{OptionDuration}
@@ -33,14 +35,11 @@ use Rattle.acked_bitrate_estimator.specs.Laws.{ValidEstimate, ValidVariance, Va
 use Rattle.acked_bitrate_estimator.specs.declared.AckedBitrateEstimator.{AckedBitrateEstimator}
 use Rattle.time.specs.declared.TimeDelta.{TimeDelta}
 use Rattle.time.specs.declared.TimeDelta.the-variants.{NegativeInfinity, Negative, Positive, PositiveInfinity}
-use Rattle.arrival_group.specs.ArrivalGroup.{localSendTime}
 use Rattle.arrival_group.specs.Laws as Groups
-use Rattle.arrival_group.specs.Laws.Sound.{empty, started}
-use Rattle.arrival_group.specs.Laws.{Whole, WholeIfAny}
-use Rattle.arrival_group.specs.declared.ArrivalGroup.{ArrivalGroup}
+use Rattle.arrival_group.specs.Laws.{BoundedIfAny}
 use Rattle.arrival_group.specs.declared.ArrivalGroupAccumulator.{ArrivalGroupAccumulator}
 use Rattle.arrival_group.specs.declared.OptionGroup.{OptionGroup}
-use Rattle.arrival_group.specs.declared.OptionGroup.the-variants as Previous
+use Rattle.arrival_group.specs.declared.OptionGroup.the-variants as G
 use Rattle.trendline.specs.History.{Ascending, First}
 use Rattle.trendline.specs.Laws.{SoundDelays, SoundHistory, SoundOveruse}
 use Rattle.trendline.specs.declared.Delays.{Delays}
@@ -51,7 +50,11 @@ use Rattle.trendline.specs.declared.TrendlineEstimator.{TrendlineEstimator}
 use Rattle.rate_control.specs.RateControl.{observedBitRateSmoothingFactor}
 use Rattle.rate_control.specs.Laws.{InstantAtMost, DurationAtMost}
 use Rattle.rate_control.specs.declared.RateControl.{RateControl}
-use Rattle.control.specs.Control.{maxEstimate, minEstimate, rttSmoothingFactor}
+use Rattle.control.specs.Control.{rttSmoothingFactor}
+use Rattle.control.specs.Laws.{mostRoundTrip}
+use Rattle.bandwidth.specs.Bandwidth.{minEstimate, maxEstimate, mostRate}
+use Rattle.trendline.specs.Trendline.{minThresholdMs, maxThresholdMs}
+use Rattle.float.specs.Float.{within}
 use Rattle.link_state.specs.State.{
   ackedIn,
   ackedRateIn,
@@ -62,37 +65,29 @@ use Rattle.link_state.specs.State.{
   controlIn,
   delaysIn,
   durationIn,
-  emptyGroup,
+  groupIn,
   groupsIn,
   historyIn,
   inRange,
   instantIn,
-  leastThreshold,
   most30,
   most31,
   mostNs,
   mostOveruse,
-  mostRate,
-  mostRoundTrip,
-  mostThreshold,
   mostTime,
   overuseIn,
   overuseTimeIn,
-  previousIn,
   rateControlIn,
   sumIn,
   trendlineIn,
-  wholeGroup,
-  within,
 }
 use Rattle.link_state.specs.declared.Link.{Link}
 use Rattle.questions.specs.Questions.{mostInstant, windowIn}
 use Rattle.link.specs.Link.{opened, opening}
 use Rattle.link_runs.specs.Statement.{Call, run}
-use Rattle.link_runs.specs.Tests.{is-true}
 use Rattle.link_runs.specs.Acknowledged.{GoodAcked}
 use Rattle.link_runs.specs.Overuse.{Anchored, mostSend}
-use Rattle.link_runs.specs.Packets.{GoodOveruse, GoodTrendline, SentIfAny, sent}
+use Rattle.link_runs.specs.Packets.{GoodOveruse, GoodTrendline}
 use Rattle.link_runs.specs.Good.{Good, GoodRate, opening-good, run-good}
 
 -- ---- kinds of fields
@@ -165,19 +160,18 @@ acked-in a g =
     rw (window-in (a .«initial_window») (r .initial), window-in (a .window) (r .later), acked-rate-in (a .estimate) (r .estimate), within-is (variance-in (a .«estimate_var») (r .variance)), s, le-leb (a .«current_window») 10000000000 (omega (arith, w .elapsed)), instant-in (a .«last_update») (g .last))
 
 -- ---- groups
-whole-in : (origin : ℕ) (g : ArrivalGroup) → Whole origin mostInstant mostInstant g → wholeGroup g ≡ true
-unfolding wholeGroup
-whole-in origin g w =
-    rw (w .first, w .send, w .remote, le-leb (w .firstSend) mostNs (omega (arith, w .first-last, w .last-send)), le-leb (w .firstRemote) mostNs (omega (arith, w .first-last-remote, w .last-remote)), le-leb (w .lastSend) mostNs (omega (arith, w .last-send)), le-leb (w .lastRemote) mostNs (omega (arith, w .last-remote)))
+group-in : (g : OptionGroup) → BoundedIfAny mostInstant mostInstant g → groupIn g ≡ true
+group-in G.None h = refl
+group-in (G.Some g) h =
+    rw (le-leb (g .«first_local_send_time») mostNs (omega (arith, h .first-send)), le-leb (g .«first_remote_recv_time») mostNs (omega (arith, h .first-remote)), le-leb (g .«last_local_send_time») mostNs (omega (arith, h .last-send)), le-leb (g .«last_remote_recv_time») mostNs (omega (arith, h .last-remote)))
 
-previous-in : (origin : ℕ) (p : OptionGroup) → WholeIfAny origin mostInstant mostInstant p → previousIn p ≡ true
-previous-in origin Previous.None w = refl
-previous-in origin (Previous.Some g) w = whole-in origin g w
+origin-in : (t : OptionInstant) → instantOr t 0 ≤ mostInstant → instantIn t ≡ true
+origin-in Instant.None h = refl
+origin-in (Instant.Some t) h = instant-in (Instant.Some t) h
 
 groups-in : (a : ArrivalGroupAccumulator) → Groups.Sound mostInstant mostInstant a → groupsIn a ≡ true
-unfolding groupsIn wholeGroup emptyGroup
-groups-in a (empty e) = rw e refl
-groups-in a (started {origin} e o v w) = rw (e, le-leb origin mostNs (omega arith), previous-in origin (a .«previous_group») v, whole-in origin (a .«current_group») w)
+unfolding groupsIn
+groups-in a s = rw (origin-in (a .«send_time_origin») (s .origin), group-in (a .«previous_group») (s .previous), group-in (a .«current_group») (s .current))
 
 -- ---- the trendline
 ascends-in : (low high : Float) (n : ℕ) (xs : List Float) → n ≤ length xs → T (le low high) → (0 < n → T (le low (getD xs 0 nan))) → First (λ x. T (le x high)) n xs → Ascending n xs
@@ -206,7 +200,7 @@ history-in h s d =
 delays-in : (d : Delays) → SoundDelays d → Within most31 (d .«smoothed_delay») → delaysIn d ≡ true
 unfolding delaysIn
 delays-in d s m =
-    let t : In leastThreshold mostThreshold (d .«delay_threshold») = in-wider (s .threshold) (unfold floats in tt) in
+    let t : In minThresholdMs maxThresholdMs (d .«delay_threshold») = in-wider (s .threshold) (unfold floats in tt) in
     rw (le-leb (d .«num_delay_variations») 1000 (s .count), within-is (s .accumulated), within-is m, within-is t, eq-refl (d .«previous_trend») (s .trend))
 
 time-in : (s : ℕ) (t : TimeDelta) → s ≤ mostSend → Anchored s t → overuseTimeIn t ≡ true
@@ -215,13 +209,13 @@ time-in s (Negative n) h a = le-leb n mostOveruse (omega (arith, a .since, a .mo
 time-in s (Positive n) h a = le-leb n mostOveruse (omega (arith, a .since))
 time-in s PositiveInfinity h a = absurd (a .since)
 
-overuse-in : (p : OptionGroup) (len : ℕ) (o : OptionOveruse) → SentIfAny p → SoundOveruse o → GoodOveruse p len o → overuseIn o ≡ true
+overuse-in : (p : OptionGroup) (len : ℕ) (o : OptionOveruse) → BoundedIfAny mostInstant mostInstant p → SoundOveruse o → GoodOveruse p len o → overuseIn o ≡ true
 unfolding overuseIn
 overuse-in p len Over.None h s g = refl
-overuse-in Previous.None len (Over.Some o) h s g = absurd g
-overuse-in (Previous.Some p) len (Over.Some o) h s g = rw (le-leb (o .count) 2 s, time-in (localSendTime p) (o .«time_overusing») h (g .1))
+overuse-in G.None len (Over.Some o) h s g = absurd g
+overuse-in (G.Some p) len (Over.Some o) h s g = rw (le-leb (o .count) 2 s, time-in (p .«last_local_send_time») (o .«time_overusing») (h .last-send) (g .1))
 
-trendline-in : (p : OptionGroup) (t : TrendlineEstimator) → SentIfAny p → GoodTrendline p t → trendlineIn t ≡ true
+trendline-in : (p : OptionGroup) (t : TrendlineEstimator) → BoundedIfAny mostInstant mostInstant p → GoodTrendline p t → trendlineIn t ≡ true
 unfolding trendlineIn
 trendline-in p t h g =
     let s = g .sound in
@@ -232,7 +226,7 @@ rate-control-in : (c : RateControl) → GoodRate c → rateControlIn c ≡ true
 unfolding rateControlIn
 rate-control-in c g =
     let r : In (minEstimate .0) (maxEstimate .0) (c .«estimated_bitrate» .0) = in-wider (g .sound .in-range) (unfold floats in tt) in
-    rw (g .sound .low-is, g .sound .high-is, eq-refl (minEstimate .0) (unfold floats in tt), eq-refl (maxEstimate .0) (unfold floats in tt), within-is r, average-in (c .«averaged_observed_bitrate») observedBitRateSmoothingFactor mostRate (unfold floats in tt) (g .kept .average-kept), instant-in (c .«last_estimate_update») (g .kept .last-at-most), duration-in (c .«last_rtt») (g .kept .rtt-at-most))
+    rw (g .sound .low-is, g .sound .high-is, eq-refl (minEstimate .0) (unfold floats in tt), eq-refl (maxEstimate .0) (unfold floats in tt), within-is r, average-in (c .«averaged_observed_bitrate») observedBitRateSmoothingFactor (mostRate .0) (unfold floats in tt) (g .kept .average-kept), instant-in (c .«last_estimate_update») (g .kept .last-at-most), duration-in (c .«last_rtt») (g .kept .rtt-at-most))
 
 -- ---- the link
 pub good-in-range : (l : Link) → Good l → inRange l ≡ true
@@ -240,7 +234,7 @@ unfolding inRange controlIn
 good-in-range l g =
     let c = l .control in
     let p = g .packets in
-    rw (acked-in (l .acked) (g .acked), groups-in (c .«arrival_group_accumulator») (p .groups), trendline-in (c .«arrival_group_accumulator» .«previous_group») (c .«trendline_estimator») (sent (c .«arrival_group_accumulator») (p .groups) .0) (p .trendline), rate-control-in (c .«rate_control») (g .rate), average-in (c .«smoothed_rtt») rttSmoothingFactor mostRoundTrip (unfold floats in tt) (g .roundTrip), le-leb (c .«next_timeout») mostNs (omega (arith, g .timeout)), instant-in (c .«last_twcc_report») (g .report))
+    rw (acked-in (l .acked) (g .acked), groups-in (c .«arrival_group_accumulator») (p .groups), trendline-in (c .«arrival_group_accumulator» .«previous_group») (c .«trendline_estimator») (p .groups .previous) (p .trendline), rate-control-in (c .«rate_control») (g .rate), average-in (c .«smoothed_rtt») rttSmoothingFactor mostRoundTrip (unfold floats in tt) (g .roundTrip), le-leb (c .«next_timeout») mostNs (omega (arith, g .timeout)), instant-in (c .«last_twcc_report») (g .report))
 
 -- every link that a run reaches
 pub reached-in-range : (start : Bitrate) (initial window : ℕ) (l : Link) → opening start initial window ≡ opened l → (calls : List Call) → inRange (run l calls) ≡ true

@@ -1,5 +1,4 @@
 pub mod Statement
-pub mod Tests
 pub mod Acknowledged
 pub mod Overuse
 pub mod Packets

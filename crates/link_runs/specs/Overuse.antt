@@ -10,7 +10,7 @@ use Rattle.time.specs.Time.{limit, negative, positive, difference, addLimited, 
 use Rattle.time.specs.Laws.{limited-within}
 use Rattle.time.specs.declared.TimeDelta.{TimeDelta}
 use Rattle.time.specs.declared.TimeDelta.the-variants.{NegativeInfinity, Negative, Positive, PositiveInfinity}
-use Rattle.trendline.specs.Cases.{cases}
+use Rattle.bool_laws.specs.Bools.{cases}
 
 -- ---- the claims
 -- the latest send instant of a group: rounding to ms adds half of one at most

@@ -4,34 +4,31 @@ use native.Mathlib.Numerals.{add-one}
 use native.Mathlib.Omega.{arith}
 use mathlib.Core.Path.{_≡_, refl}
 use mathlib.Core.Bool.{_&&_}
-use mathlib.Core.List.{List, [], _∷_}
+use mathlib.Core.List.{List}
 use borrow.Author.Tests.{le-ltb, ltb-true, eqb-true, eqb-false}
 use lib.Dec.{ltb, eqb}
 use lib.ListN.{length}
 use lib.Ieee as Ieee
 use lib.Ieee.{Float, neg}
 use Rattle.float_order.specs.Binary64 as F
-use Rattle.float_order.specs.Binary64.{sub, mul}
+use Rattle.float_order.specs.Binary64.{sub, mul, one}
 use Rattle.float_order.specs.Range.{Within, nat, in-closed, lit-in, add-in, mul-in, absorb}
 use Rattle.float_order.specs.Interval.{floats}
 use Rattle.time.specs.Time as Time
-use Rattle.time.specs.Time.{checkedDurationSince, difference, instantOr}
+use Rattle.time.specs.Time.{difference, instantOr}
 use Rattle.time.specs.declared.TimeDelta.{TimeDelta}
 use Rattle.bandwidth.specs.declared.BandwidthUsage.{BandwidthUsage}
 use Rattle.arrival_group.specs.ArrivalGroup as Group
-use Rattle.arrival_group.specs.ArrivalGroup.{accumulatePacket, accumulateRounded, accumulateSince, addPacket, delta, deltaFrom, localSendTime}
+use Rattle.arrival_group.specs.ArrivalGroup.{accumulatePacket, accumulateRounded, delta, deltaBetween}
 use Rattle.arrival_group.specs.Laws as Groups
-use Rattle.arrival_group.specs.Laws.Sound.{empty, started}
-use Rattle.arrival_group.specs.Laws.{Measured, MeasuredIfAny, WholeIfAny, accumulate-kept}
+use Rattle.arrival_group.specs.Laws.{Bounded, BoundedIfAny, Measured, accumulate-sound, measured}
 use Rattle.arrival_group.specs.declared.ArrivalGroup.{ArrivalGroup}
-use Rattle.arrival_group.specs.declared.ArrivalGroupAccumulator.{ArrivalGroupAccumulator}
 use Rattle.arrival_group.specs.declared.Accumulated.{Accumulated}
 use Rattle.arrival_group.specs.declared.InterGroupDelayDelta.{InterGroupDelayDelta}
 use Rattle.arrival_group.specs.declared.OptionGroup.{OptionGroup}
-use Rattle.arrival_group.specs.declared.OptionGroup.the-variants as Previous
-use Rattle.arrival_group.specs.declared.OptionDelta.the-variants as Delta
-use Rattle.trendline.specs.Cases.{cases}
-use Rattle.trendline.specs.Trendline.{smoothingCoef, one, overUseTimeThreshold, accumulate, add, addToHistory, addDelayObservation, detect, judge, linearFit, modifiedTrend, new, nextOveruse, overusing, place, withTrend}
+use Rattle.arrival_group.specs.declared.OptionGroup.the-variants as G
+use Rattle.bool_laws.specs.Bools.{cases}
+use Rattle.trendline.specs.Trendline.{smoothingCoef, overUseTimeThreshold, accumulate, add, addToHistory, addDelayObservation, detect, judge, linearFit, modifiedTrend, new, nextOveruse, overusing, place, withTrend}
 use Rattle.trendline.specs.History.{First, place-le, insert-each, insert-full-each}
 use Rattle.trendline.specs.Laws as Trendline
 use Rattle.trendline.specs.Laws.{SoundDelays, SoundHistory, mostAccumulated, observation-sound}
@@ -42,20 +39,19 @@ use Rattle.trendline.specs.declared.Judgement.{Judgement}
 use Rattle.trendline.specs.declared.OptionOveruse.{OptionOveruse}
 use Rattle.trendline.specs.declared.OptionOveruse.the-variants as Over
 use Rattle.trendline.specs.declared.TrendlineEstimator.{TrendlineEstimator}
-use Rattle.control.specs.Control as Control
-use Rattle.control.specs.Control.{addAll, observe}
-use Rattle.control.specs.declared.Packets.{Packets}
-use Rattle.receive_order.specs.Lists.{All}
+use Rattle.control.specs.Control.{addPacket, addPackets, observe}
+use Rattle.control.specs.Laws.{Instants, fold-keeps}
+use Rattle.control.specs.declared.DelayDetector.{DelayDetector}
 use Rattle.link_state.specs.State.{most31}
 use Rattle.questions.specs.Questions.{mostInstant}
-use Rattle.link_runs.specs.Overuse.{Anchored, mostSend, begins, lasts}
+use Rattle.link_runs.specs.Overuse.{Anchored, begins, lasts}
 
 -- ---- the claims
 -- there is an overuse only after a group, and with a full history
 abbrev pub GoodOveruse : OptionGroup → ℕ → OptionOveruse → Type 0
 GoodOveruse p len Over.None = Unit {0}
-GoodOveruse Previous.None len (Over.Some o) = ⊥
-GoodOveruse (Previous.Some g) len (Over.Some o) = (len ≡ 20) × Anchored (localSendTime g) (o .«time_overusing»)
+GoodOveruse G.None len (Over.Some o) = ⊥
+GoodOveruse (G.Some g) len (Over.Some o) = (len ≡ 20) × Anchored (g .«last_local_send_time») (o .«time_overusing»)
 
 -- of the previous group and the trendline; 10 ^ 9 s, and delays to the greatest float that is not above 10 ^ 31
 pub record GoodTrendline (p : OptionGroup) (t : TrendlineEstimator) : Type 0 where
@@ -65,9 +61,9 @@ pub record GoodTrendline (p : OptionGroup) (t : TrendlineEstimator) : Type 0 whe
   pub delays : First (Within most31) (t .history .len) (t .history .delays)
   pub overuse : GoodOveruse p (t .history .len) (t .overuse)
 
-pub record GoodPackets (g : ArrivalGroupAccumulator) (t : TrendlineEstimator) : Type 0 where
-  pub groups : Groups.Sound mostInstant mostInstant g
-  pub trendline : GoodTrendline (g .«previous_group») t
+pub record GoodPackets (d : DelayDetector) : Type 0 where
+  pub groups : Groups.Sound mostInstant mostInstant (d .«arrival_group_accumulator»)
+  pub trendline : GoodTrendline (d .«arrival_group_accumulator» .«previous_group») (d .«trendline_estimator»)
 
 -- ---- a point of the history
 -- a full history stays full, and what is counted stays at least its length
@@ -130,24 +126,29 @@ detect-detected t trend sent now h =
     rw (le-ltb (t .delays .«num_delay_variations») 2 h)
     (record { history = refl; count = refl; smoothed = refl; overuse = judge-judged (t .delays) (t .overuse) (t .hypothesis) trend sent })
 
-module _ (g g′ : ArrivalGroup) (h : localSendTime g ≤ mostSend) (k : localSendTime g′ ≤ mostSend) where
-  judged-good : (old new : OptionOveruse) (sent : TimeDelta) (len : ℕ) → sent ≡ difference (localSendTime g′) (localSendTime g) → GoodOveruse (Previous.Some g) len old → Judged old sent new
-      → GoodOveruse (Previous.Some g′) 20 new
+module _ (g g′ : ArrivalGroup) (h : Bounded mostInstant mostInstant g) (k : Bounded mostInstant mostInstant g′) where
+  judged-good : (old new : OptionOveruse) (sent : TimeDelta) (len : ℕ) → sent ≡ difference (g′ .«last_local_send_time») (g .«last_local_send_time») → GoodOveruse (G.Some g) len old → Judged old sent new
+      → GoodOveruse (G.Some g′) 20 new
   unfolding nextOveruse
   judged-good Over.None new sent len e o cleared = tt
-  judged-good Over.None new sent len e o counted = (refl, rw e (begins (localSendTime g) (localSendTime g′) h k))
+  judged-good Over.None new sent len e o counted = (refl, rw e (begins (g .«last_local_send_time») (g′ .«last_local_send_time») (h .last-send) (k .last-send)))
   judged-good (Over.Some u) new sent len e o cleared = tt
-  judged-good (Over.Some u) new sent len e o counted = (refl, rw e (lasts (localSendTime g) (localSendTime g′) h k (u .«time_overusing») (o .1)))
+  judged-good (Over.Some u) new sent len e o counted = (refl, rw e (lasts (g .«last_local_send_time») (g′ .«last_local_send_time») (h .last-send) (k .last-send) (u .«time_overusing») (o .1)))
 
 -- without a full history there was none
 none-good : (p q : OptionGroup) (o : OptionOveruse) (len len′ : ℕ) → (len ≡ 20 → ⊥) → GoodOveruse p len o → GoodOveruse q len′ o
 none-good p q Over.None len len′ n h = tt
-none-good Previous.None q (Over.Some o) len len′ n h = absurd h
-none-good (Previous.Some g) q (Over.Some o) len len′ n h = absurd (n (h .0))
+none-good G.None q (Over.Some o) len len′ n h = absurd h
+none-good (G.Some g) q (Over.Some o) len len′ n h = absurd (n (h .0))
 
 -- two groups, and what they measured
-module _ (g g′ : ArrivalGroup) (h : localSendTime g ≤ mostSend) (k : localSendTime g′ ≤ mostSend) (v : InterGroupDelayDelta) (m : Measured mostInstant mostInstant g g′ v)
-    (t : TrendlineEstimator) (r : GoodTrendline (Previous.Some g) t) where
+module _ (g g′ : ArrivalGroup) (h : Bounded mostInstant mostInstant g) (k : Bounded mostInstant mostInstant g′) (t : TrendlineEstimator) (r : GoodTrendline (G.Some g) t) where
+  abbrev v : InterGroupDelayDelta
+  v = deltaBetween g g′
+
+  m : Measured mostInstant mostInstant g g′ v
+  m = measured (omega arith) (omega arith) h k
+
   abbrev added : TrendlineEstimator
   added = addToHistory t v
 
@@ -167,7 +168,7 @@ module _ (g g′ : ArrivalGroup) (h : localSendTime g ≤ mostSend) (k : localSe
   unfolding addToHistory
   added-delays = add-delays (Within most31) (t .history) _ _ (r .sound .history) (r .delays) added-smoothed
 
-  full-good : (u : TrendlineEstimator) → added .history .len ≡ 20 → Detected added (v .«send_delta») u → Trendline.Sound (10 ^ 9) u → GoodTrendline (Previous.Some g′) u
+  full-good : (u : TrendlineEstimator) → added .history .len ≡ 20 → Detected added (v .«send_delta») u → Trendline.Sound (10 ^ 9) u → GoodTrendline (G.Some g′) u
   unfolding addToHistory
   full-good u f d s =
       record {
@@ -178,7 +179,7 @@ module _ (g g′ : ArrivalGroup) (h : localSendTime g ≤ mostSend) (k : localSe
         overuse = rw (d .history, f) (judged-good g g′ h k (t .overuse) (u .overuse) (v .«send_delta») (t .history .len) (m .send) (r .overuse) (d .overuse));
       }
 
-  few-good : (added .history .len ≡ 20 → ⊥) → Trendline.Sound (10 ^ 9) added → GoodTrendline (Previous.Some g′) added
+  few-good : (added .history .len ≡ 20 → ⊥) → Trendline.Sound (10 ^ 9) added → GoodTrendline (G.Some g′) added
   unfolding addToHistory
   few-good f s =
       record {
@@ -186,13 +187,13 @@ module _ (g g′ : ArrivalGroup) (h : localSendTime g ≤ mostSend) (k : localSe
         counted = added-counted;
         smoothed = added-smoothed;
         delays = added-delays;
-        overuse = none-good (Previous.Some g) (Previous.Some g′) (t .overuse) (t .history .len) (added .history .len) (λ e. f (added-full e)) (r .overuse);
+        overuse = none-good (G.Some g) (G.Some g′) (t .overuse) (t .history .len) (added .history .len) (λ e. f (added-full e)) (r .overuse);
       }
 
-  observation-good : (now : ℕ) → now ≤ mostInstant → GoodTrendline (Previous.Some g′) (addDelayObservation t v now)
+  observation-good : (now : ℕ) → now ≤ mostInstant → GoodTrendline (G.Some g′) (addDelayObservation t v now)
   unfolding addDelayObservation
   observation-good now l =
-      cases (λ (u : TrendlineEstimator). Trendline.Sound (10 ^ 9) u → GoodTrendline (Previous.Some g′) u) (eqb (added .history .len) 20)
+      cases (λ (u : TrendlineEstimator). Trendline.Sound (10 ^ 9) u → GoodTrendline (G.Some g′) u) (eqb (added .history .len) 20)
       (λ e.
       let f = eqb-true (added .history .len) 20 e in
       full-good _ f (detect-detected added (linearFit (added .history .times) (added .history .delays) (added .delays .«previous_trend»)) (v .«send_delta») now (omega (arith, added-counted))))
@@ -200,69 +201,46 @@ module _ (g g′ : ArrivalGroup) (h : localSendTime g ≤ mostSend) (k : localSe
       (observation-sound {s = 10 ^ 9} (omega arith) {now = now} (r .sound) (record { send = m .send-bound; arrival = m .arrival-bound; last = m .last-bound }) l)
 
 -- ---- a packet
--- it closes the current group, or leaves the previous one
-data Turned (a : ArrivalGroupAccumulator) (x : Accumulated) : Type 0 where
-  left : x .accumulator .«previous_group» ≡ a .«previous_group» → x .delta ≡ Delta.None → Turned a x
-  closed : x .accumulator .«previous_group» ≡ Previous.Some (a .«current_group») → x .delta ≡ deltaFrom (a .«previous_group») (a .«current_group») → Turned a x
-
-turned : (a : ArrivalGroupAccumulator) (send remote : ℕ) → Turned a (accumulatePacket a send remote)
-unfolding accumulatePacket accumulateRounded checkedDurationSince delta
-turned a send remote =
-    let origin = instantOr (a .«send_time_origin») send in
-    cases (λ d. Turned a (accumulateSince d a origin remote)) (ltb send origin) (λ e. left refl refl)
-    (λ e. cases (Turned a) (addPacket (a .«current_group») (Group.rounded origin (send - origin)) remote .«need_new_group») (λ f. closed refl refl) (λ f. left refl refl))
-
-abbrev pub SentIfAny : OptionGroup → Type 0
-SentIfAny Previous.None = Unit {0}
-SentIfAny (Previous.Some g) = localSendTime g ≤ mostSend
-
-whole-sent : (origin : ℕ) (p : OptionGroup) → WholeIfAny origin mostInstant mostInstant p → SentIfAny p
-whole-sent origin Previous.None w = tt
-whole-sent origin (Previous.Some g) w = rw (w .send) (w .last-send)
-
-pub sent : (a : ArrivalGroupAccumulator) → Groups.Sound mostInstant mostInstant a → SentIfAny (a .«previous_group») × (localSendTime (a .«current_group») ≤ mostSend)
-sent a (empty e) = rw e (tt, omega arith)
-sent a (started {origin} e o v w) = (whole-sent origin (a .«previous_group») v, rw (w .send) (w .last-send))
-
-closed-good : (p : OptionGroup) (g : ArrivalGroup) (t : TrendlineEstimator) → SentIfAny p → localSendTime g ≤ mostSend → MeasuredIfAny mostInstant mostInstant p g (deltaFrom p g)
-    → GoodTrendline p t → GoodTrendline (Previous.Some g) (observe (deltaFrom p g) t)
-closed-good Previous.None g t h k m r =
+closed-good : (p : OptionGroup) (g : ArrivalGroup) (t : TrendlineEstimator) → BoundedIfAny mostInstant mostInstant p → Bounded mostInstant mostInstant g → GoodTrendline p t
+    → GoodTrendline (G.Some g) (observe (delta p g) t)
+unfolding delta
+closed-good G.None g t h k r =
     record { sound = r .sound; counted = r .counted; smoothed = r .smoothed; delays = r .delays; overuse = none (t .overuse) (r .overuse) }
   where
-    none : (o : OptionOveruse) → GoodOveruse Previous.None (t .history .len) o → GoodOveruse (Previous.Some g) (t .history .len) o
+    none : (o : OptionOveruse) → GoodOveruse G.None (t .history .len) o → GoodOveruse (G.Some g) (t .history .len) o
     none Over.None n = tt
     none (Over.Some u) n = absurd n
-closed-good (Previous.Some p) g t h k m r = observation-good p g h k _ m t r _ (m .last-bound)
+closed-good (G.Some p) g t h k r = observation-good p g h k t r _ (k .last-remote)
 
-packet-good : (a : ArrivalGroupAccumulator) (t : TrendlineEstimator) (send remote : ℕ) → send ≤ mostInstant → remote ≤ mostInstant → GoodPackets a t
-    → GoodPackets (accumulatePacket a send remote .accumulator) (observe (accumulatePacket a send remote .delta) t)
-packet-good a t send remote h k g = record { groups = done .sound; trendline = go (turned a send remote) }
-  where
-    x : Accumulated
-    x = accumulatePacket a send remote
+abbrev GoodAfter : TrendlineEstimator → Accumulated → Type 0
+GoodAfter t x = GoodTrendline (x .accumulator .«previous_group») (observe (x .delta) t)
 
-    done : Groups.Kept mostInstant mostInstant a x
-    done = accumulate-kept a (omega arith) (omega arith) h k (g .groups)
+-- it closes the current group, or leaves the previous one
+rounded-good : (current previous : OptionGroup) (t : TrendlineEstimator) (origin send remote : ℕ) → BoundedIfAny mostInstant mostInstant current → BoundedIfAny mostInstant mostInstant previous
+    → GoodTrendline previous t → GoodAfter t (accumulateRounded current previous origin send remote)
+unfolding accumulateRounded
+rounded-good G.None previous t origin send remote h k g = g
+rounded-good (G.Some c) previous t origin send remote h k g =
+    cases (GoodAfter t) (Group.addPacket c send remote .«need_new_group») (λ e. closed-good previous c t k h g) (λ e. g)
 
-    go : Turned a x → GoodTrendline (x .accumulator .«previous_group») (observe (x .delta) t)
-    go (left p d) = rw (p, d) (g .trendline)
-    go (closed p d) =
-        let s = sent a (g .groups) in
-        rw (p, d) (closed-good (a .«previous_group») (a .«current_group») t (s .0) (s .1) (rw d at (done .measured)) (g .trendline))
+packet-good : (d : DelayDetector) (send remote : ℕ) → GoodPackets d → send ≤ mostInstant → remote ≤ mostInstant → GoodPackets (addPacket d send remote)
+unfolding accumulatePacket
+packet-good d send remote g h k =
+    let a = d .«arrival_group_accumulator» in
+    let t = d .«trendline_estimator» in
+    let origin = instantOr (a .«send_time_origin») send in
+    record {
+      groups = accumulate-sound a (omega arith) h k (g .groups);
+      trendline =
+          cases (GoodAfter t) (ltb send origin) (λ e. g .trendline)
+          (λ e. rounded-good (a .«current_group») (a .«previous_group») t origin (Group.rounded origin (send - origin)) remote (g .groups .current) (g .groups .previous) (g .trendline));
+    }
 
 -- ---- a report's packets
-pub packets-good : (p : Packets) (sends remotes receives : List ℕ) → All (λ t. t ≤ mostInstant) sends → All (λ t. t ≤ mostInstant) remotes
-    → GoodPackets (p .«arrival_group_accumulator») (p .«trendline_estimator»)
-    → GoodPackets (addAll p sends remotes receives .«arrival_group_accumulator») (addAll p sends remotes receives .«trendline_estimator»)
-unfolding addAll Control.add
-packets-good p [] remotes receives h k g = g
-packets-good p (s ∷ sends) [] receives h k g = g
-packets-good p (s ∷ sends) (r ∷ remotes) [] h k g = g
-packets-good p (s ∷ sends) (r ∷ remotes) (l ∷ receives) h k g =
-    packets-good (Control.add p s r l) sends remotes receives (h .1) (k .1)
-    (packet-good (p .«arrival_group_accumulator») (p .«trendline_estimator») s r (h .0) (k .0) g)
+pub packets-good : (d : DelayDetector) (sends remotes : List ℕ) → Instants mostInstant sends remotes → GoodPackets d → GoodPackets (addPackets d sends remotes)
+packets-good d sends remotes h g = fold-keeps GoodPackets packet-good sends remotes h g
 
-pub new-good : GoodPackets Group.newAccumulator new
+pub new-good : GoodPackets record { «arrival_group_accumulator» = Group.newAccumulator; «trendline_estimator» = new }
 new-good =
     record {
       groups = Groups.new-sound mostInstant mostInstant;

@@ -7,7 +7,8 @@ use native.Mathlib.Numerals.{add-one}
 use lib.ListN.{length, take, drop, getD}
 use lib.Seq.{drop-cons, drop-length, length-take-le, getD-take}
 use lib.Ieee.{Float, nan, neg, le}
-use Rattle.link_state.specs.State.{ascends, allWithin, within}
+use Rattle.link_state.specs.State.{ascends, allWithin}
+use Rattle.float.specs.Float.{within}
 
 rest-cons : (a : List Float) (n i : ℕ) → i < n → n ≤ length a → drop i (take n a) ≡ getD a i nan ∷ drop (i + 1) (take n a)
 rest-cons a n i h k =

@@ -1,7 +1,7 @@
 -- What a passed question 1 tells of a link, over numbers. `Sized` is known of every value of the code.
 use mathlib.Core.Path.{_≡_, refl, ap}
-use mathlib.Core.Logic.{_⊎_, inl, inr}
-use mathlib.Core.Bool.{Bool, true, false, not, _&&_, _||_}
+use mathlib.Core.Logic.{inl, inr}
+use mathlib.Core.Bool.{Bool, true, false, not, _&&_}
 use mathlib.Core.List.{List, [], _∷_}
 use Prim.Native.Nat.{ℕ, zero, suc, _+_, _*_, _^_, _≤_, _<_}
 use native.Mathlib.Omega.{arith}
@@ -18,6 +18,7 @@ use Rattle.float_order.specs.Ops.{zero₊}
 use Rattle.float_order.specs.Range.{In, Within, nat, in-wider}
 use Rattle.float_order.specs.Interval.{floats}
 use Rattle.float_order.specs.Same.{isZero, eq→same}
+use Rattle.bool_laws.specs.Bools.{left, right}
 use Rattle.sqrt.specs.Sqrt.{sqrt}
 use Rattle.average.specs.declared.OptionF64.{OptionF64}
 use Rattle.average.specs.declared.OptionF64.the-variants as F64
@@ -35,13 +36,10 @@ use Rattle.time.specs.declared.TimeDelta.{TimeDelta}
 use Rattle.time.specs.declared.TimeDelta.the-variants as Delta
 use Rattle.acked_bitrate_estimator.specs.Laws.{ValidSum, ValidWindow}
 use Rattle.acked_bitrate_estimator.specs.declared.AckedBitrateEstimator.{AckedBitrateEstimator}
-use Rattle.arrival_group.specs.ArrivalGroup as Group
 use Rattle.arrival_group.specs.Laws.{AtMost}
 use Rattle.arrival_group.specs.declared.ArrivalGroup.{ArrivalGroup}
-use Rattle.arrival_group.specs.declared.OptionFirst.{OptionFirst}
-use Rattle.arrival_group.specs.declared.OptionFirst.the-variants as First
 use Rattle.arrival_group.specs.declared.OptionGroup.{OptionGroup}
-use Rattle.arrival_group.specs.declared.OptionGroup.the-variants as Previous
+use Rattle.arrival_group.specs.declared.OptionGroup.the-variants as G
 use Rattle.arrival_group.specs.declared.ArrivalGroupAccumulator.{ArrivalGroupAccumulator}
 use Rattle.trendline.specs.History as Timings
 use Rattle.trendline.specs.Laws.{SoundDelays, SoundHistory, SoundOveruse, Sound}
@@ -54,10 +52,13 @@ use Rattle.rate_control.specs.RateControl.{observedBitRateSmoothingFactor}
 use Rattle.rate_control.specs.Laws as RateControl
 use Rattle.rate_control.specs.Laws.{InstantAtMost, DurationAtMost}
 use Rattle.rate_control.specs.declared.RateControl.{RateControl as RateControlState}
-use Rattle.control.specs.Control.{minEstimate, maxEstimate, rttSmoothingFactor}
+use Rattle.control.specs.Control.{rttSmoothingFactor}
+use Rattle.control.specs.Laws.{mostRoundTrip}
+use Rattle.bandwidth.specs.Bandwidth.{minEstimate, maxEstimate, mostRate}
+use Rattle.trendline.specs.Trendline.{minThresholdMs, maxThresholdMs}
+use Rattle.float.specs.Float.{within}
 use Rattle.questions.specs.Questions.{windowIn}
 use Rattle.link_state.specs.State.{
-  absent,
   ackedIn,
   ackedRateIn,
   allWithin,
@@ -67,32 +68,22 @@ use Rattle.link_state.specs.State.{
   controlIn,
   delaysIn,
   durationIn,
-  emptyGroup,
-  firstAbsent,
-  firstPresent,
+  groupIn,
   groupsIn,
   historyIn,
   inRange,
   instantIn,
   leastAcked,
-  leastThreshold,
   most30,
   most31,
   mostNs,
   mostOveruse,
-  mostRate,
-  mostRoundTrip,
-  mostThreshold,
   mostTime,
   overuseIn,
   overuseTimeIn,
-  present,
-  previousIn,
   rateControlIn,
   sumIn,
   trendlineIn,
-  wholeGroup,
-  within,
 }
 use Rattle.link_state.specs.declared.Link.{Link}
 
@@ -128,31 +119,20 @@ pub record AckedInRange (a : AckedBitrateEstimator) : Type 0 where
   pub elapsed : a .«current_window» ≤ 10 ^ 10
   pub last-update : InstantAtMost mostNs (a .«last_update»)
 
-pub record Present (t : OptionInstant) : Type 0 where
-  pub at : ℕ
-  pub is : t ≡ Instant.Some at
-  pub few : at ≤ mostNs
+pub record GroupInRange (g : ArrivalGroup) : Type 0 where
+  pub first-send : g .«first_local_send_time» ≤ mostNs
+  pub first-remote : g .«first_remote_recv_time» ≤ mostNs
+  pub last-send : g .«last_local_send_time» ≤ mostNs
+  pub last-remote : g .«last_remote_recv_time» ≤ mostNs
 
-pub record FirstPresent (first : OptionFirst) : Type 0 where
-  pub send : ℕ
-  pub remote : ℕ
-  pub is : first ≡ First.Some send remote
-  pub few-send : send ≤ mostNs
-  pub few-remote : remote ≤ mostNs
-
-pub record WholeGroup (g : ArrivalGroup) : Type 0 where
-  pub first : FirstPresent (g .first)
-  pub send : Present (g .«last_local_send_time»)
-  pub remote : Present (g .«last_remote_recv_time»)
-
-abbrev pub WholeIfAny : OptionGroup → Type 0
-WholeIfAny Previous.None = Unit {0}
-WholeIfAny (Previous.Some g) = WholeGroup g
+abbrev pub InRangeIfAny : OptionGroup → Type 0
+InRangeIfAny G.None = Unit {0}
+InRangeIfAny (G.Some g) = GroupInRange g
 
 pub record GroupsInRange (a : ArrivalGroupAccumulator) : Type 0 where
   pub origin : InstantAtMost mostNs (a .«send_time_origin»)
-  pub previous : WholeIfAny (a .«previous_group»)
-  pub current : WholeGroup (a .«current_group») ⊎ (a .«current_group» ≡ Group.new)
+  pub previous : InRangeIfAny (a .«previous_group»)
+  pub current : InRangeIfAny (a .«current_group»)
 
 abbrev pub OveruseInRange : OptionOveruse → Type 0
 OveruseInRange Over.None = Unit {0}
@@ -170,7 +150,7 @@ pub record RateInRange (c : RateControlState) : Type 0 where
   pub min-is : eq (c .«min_bitrate» .0) (minEstimate .0) ≡ true
   pub max-is : eq (c .«max_bitrate» .0) (maxEstimate .0) ≡ true
   pub estimate : In (nat 40000) (nat (10 ^ 10)) (c .«estimated_bitrate» .0)
-  pub average : AverageInRange observedBitRateSmoothingFactor mostRate (c .«averaged_observed_bitrate»)
+  pub average : AverageInRange observedBitRateSmoothingFactor (mostRate .0) (c .«averaged_observed_bitrate»)
   pub last-update : InstantAtMost mostNs (c .«last_estimate_update»)
   pub rtt : DurationAtMost mostNs (c .«last_rtt»)
 
@@ -184,14 +164,6 @@ pub record InRange (l : Link) : Type 0 where
   pub last-report : InstantAtMost mostNs (l .control .«last_twcc_report»)
 
 -- ---- kinds of fields
-left : (a b : Bool) → a && b ≡ true → a ≡ true
-left true b h = refl
-left false b h = h
-
-right : (a b : Bool) → a && b ≡ true → b ≡ true
-right true b h = h
-right false b h = absurd (is-true false h)
-
 within-in : {low high x : Float} → within low high x ≡ true → In low high x
 within-in {low} {high} {x} h = record { low = is-true (le low x) (search left); high = is-true (le x high) (search (left, right)) }
 
@@ -253,53 +225,13 @@ acked a h =
     }
 
 -- ---- groups
-is-present : (t : OptionInstant) → present t ≡ true → Present t
-is-present Instant.None h = absurd (is-true false h)
-is-present (Instant.Some t) h = record { at = t; is = refl; few = leb-true t mostNs h }
-
-first-present : (f : OptionFirst) → firstPresent f ≡ true → FirstPresent f
-first-present First.None h = absurd (is-true false h)
-first-present (First.Some s r) h = record { send = s; remote = r; is = refl; few-send = search (left, leb-true); few-remote = search (left, right, leb-true) }
-
-is-absent : (t : OptionInstant) → absent t ≡ true → t ≡ Instant.None
-is-absent Instant.None h = refl
-is-absent (Instant.Some t) h = absurd (is-true false h)
-
-first-absent : (f : OptionFirst) → firstAbsent f ≡ true → f ≡ First.None
-first-absent First.None h = refl
-first-absent (First.Some s r) h = absurd (is-true false h)
-
-whole : (g : ArrivalGroup) → wholeGroup g ≡ true → WholeGroup g
-unfolding wholeGroup
-whole g h = search (left, right, first-present, is-present)
-
-group : OptionFirst → OptionInstant → OptionInstant → ArrivalGroup
-group f s r = record { first = f; «last_local_send_time» = s; «last_remote_recv_time» = r }
-
-empty : (g : ArrivalGroup) → emptyGroup g ≡ true → g ≡ Group.new
-unfolding emptyGroup group
-empty g h =
-    let f : g .first ≡ First.None = search (left, right, first-absent) in
-    let s : g .«last_local_send_time» ≡ Instant.None = search (left, right, is-absent) in
-    let r : g .«last_remote_recv_time» ≡ Instant.None = search (left, right, is-absent) in
-    let e : group (g .first) (g .«last_local_send_time») (g .«last_remote_recv_time») ≡ group First.None Instant.None Instant.None = cc in
-    e
-
-previous : (p : OptionGroup) → previousIn p ≡ true → WholeIfAny p
-previous Previous.None h = tt
-previous (Previous.Some g) h = whole g h
-
-current : (g : ArrivalGroup) (t : Bool) → wholeGroup g ≡ t → t || emptyGroup g ≡ true → WholeGroup g ⊎ (g ≡ Group.new)
-current g true e h = inl (whole g e)
-current g false e h = inr (empty g h)
+group : (g : OptionGroup) → groupIn g ≡ true → InRangeIfAny g
+group G.None h = tt
+group (G.Some g) h = search (left, right, leb-true)
 
 groups : (a : ArrivalGroupAccumulator) → groupsIn a ≡ true → GroupsInRange a
 unfolding groupsIn
-groups a h = record {
-  origin = search (left, right, instant);
-  previous = search (left, right, previous);
-  current = current (a .«current_group») (wholeGroup (a .«current_group»)) refl (search (left, right));
-}
+groups a h = search (left, right, instant, group)
 
 -- ---- the trendline
 module _ (P : Float → Type 0) (n : ℕ) (xs : List Float) (h : n ≤ length xs) where
@@ -356,7 +288,7 @@ delays d h = record {
   count = search (left, right, leb-true);
   accumulated = search (left, right, within-in);
   smoothed = in-wider (within-in {low = neg most31} {high = most31} (search (left, right))) (unfold floats in tt);
-  threshold = in-wider (within-in {low = leastThreshold} {high = mostThreshold} (search (left, right))) (unfold floats in tt);
+  threshold = in-wider (within-in {low = minThresholdMs} {high = maxThresholdMs} (search (left, right))) (unfold floats in tt);
   trend = no-nan (d .«previous_trend») (search (left, right));
 }
   where

@@ -1,4 +1,3 @@
 pub mod State
-pub mod Constants
 pub mod Limits
 pub mod Laws

@@ -18,13 +18,8 @@ use Rattle.float_order.specs.Ops.{zero₊, nonneg-under, nonpos-over}
 use Rattle.float_order.specs.Range.{nat, -nat, finite-between}
 use Rattle.float_order.specs.Interval.{floats}
 use Rattle.float_order.specs.Gaps.{gap, gap-large}
+use Rattle.bool_laws.specs.Bools.{same-holds}
 use Rattle.link_state.specs.State.{most30, most31, leastAcked}
-
-same : (a b : Bool) → (T a → T b) → (T b → T a) → a ≡ b
-same true true f g = refl
-same true false f g = absurd (f tt)
-same false true f g = absurd (g tt)
-same false false f g = refl
 
 -- ---- `most` is a float not above the limit, the next float is above it
 record Next (most limit : Float) : Type 0 where
@@ -38,7 +33,7 @@ record Next (most limit : Float) : Type 0 where
   limit-finite : T (finite limit)
 
 at-most : {most limit : Float} → Next most limit → (x : Float) → T (fits binary64 x) → le x most ≡ le x limit
-at-most {most} {limit} n x f = same (le x most) (le x limit) (λ h. le-trans x most limit h (n .low)) back
+at-most {most} {limit} n x f = same-holds (le x most) (le x limit) (λ h. le-trans x most limit h (n .low)) back
   where
     back : T (le x limit) → T (le x most)
     back h = elim (either (le zero₊ x)) [
@@ -50,7 +45,7 @@ at-most {most} {limit} n x f = same (le x most) (le x limit) (λ h. le-trans x m
 
 opposite : (b x : Float) → le (neg b) x ≡ le (neg x) b
 opposite b x =
-    same (le (neg b) x) (le (neg x) b)
+    same-holds (le (neg b) x) (le (neg x) b)
     (λ h. subst (λ (z : Float). T (le (neg x) z)) (neg-neg b) (neg-le (neg b) x h))
     (λ h. subst (λ (z : Float). T (le (neg b) z)) (neg-neg x) (neg-le (neg x) b h))
 
@@ -131,4 +126,4 @@ module _ (x : Float) (held : T (fits binary64 x)) where
 
   -- x is (over x - under x) / den x: 10 x is at least 8
   pub leastAcked-exact : T (finite x) → le leastAcked x ≡ leb (8 * den x + 10 * under x) (10 * over x)
-  leastAcked-exact p = same (le leastAcked x) (leb (8 * den x + 10 * under x) (10 * over x)) (λ h. le→leb _ _ (acked-high x p h)) (λ h. acked-low x p held (leb→le _ _ h))
+  leastAcked-exact p = same-holds (le leastAcked x) (leb (8 * den x + 10 * under x) (10 * over x)) (λ h. le→leb _ _ (acked-high x p h)) (λ h. acked-low x p held (leb→le _ _ h))

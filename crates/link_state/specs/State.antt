@@ -7,12 +7,16 @@ use lib.IntN.{pos}
 use lib.ListN.{take}
 use lib.Ieee as Ieee
 use lib.Ieee.{Float, neg}
-use Rattle.float_order.specs.Binary64.{lit}
+use mathlib.Core.Path.{_≡_, refl}
+use Rattle.float_order.specs.Binary64.{lit, decimal}
+use Rattle.float_order.specs.Interval.{floats}
+use Rattle.float.specs.Float.{within}
 use Rattle.sqrt.specs.Sqrt.{sqrt}
 use Rattle.average.specs.declared.OptionF64.{OptionF64}
 use Rattle.average.specs.declared.OptionF64.the-variants as F64
 use Rattle.average.specs.declared.MovingAverage.{MovingAverage}
 use Rattle.bandwidth.specs.Bandwidth as B
+use Rattle.bandwidth.specs.Bandwidth.{minEstimate, maxEstimate, mostRate}
 use Rattle.bandwidth.specs.declared.DataSize.{DataSize}
 use Rattle.bandwidth.specs.declared.OptionBitrate.{OptionBitrate}
 use Rattle.bandwidth.specs.declared.OptionBitrate.the-variants as Rate
@@ -23,12 +27,10 @@ use Rattle.time.specs.declared.OptionInstant.the-variants as Instant
 use Rattle.time.specs.declared.OptionDuration.{OptionDuration}
 use Rattle.time.specs.declared.OptionDuration.the-variants as Duration
 use Rattle.acked_bitrate_estimator.specs.declared.AckedBitrateEstimator.{AckedBitrateEstimator}
-use Rattle.arrival_group.specs.declared.ArrivalGroup.{ArrivalGroup}
-use Rattle.arrival_group.specs.declared.OptionFirst.{OptionFirst}
-use Rattle.arrival_group.specs.declared.OptionFirst.the-variants as First
 use Rattle.arrival_group.specs.declared.OptionGroup.{OptionGroup}
-use Rattle.arrival_group.specs.declared.OptionGroup.the-variants as Previous
+use Rattle.arrival_group.specs.declared.OptionGroup.the-variants as G
 use Rattle.arrival_group.specs.declared.ArrivalGroupAccumulator.{ArrivalGroupAccumulator}
+use Rattle.trendline.specs.Trendline.{minThresholdMs, maxThresholdMs}
 use Rattle.trendline.specs.declared.History.{History}
 use Rattle.trendline.specs.declared.Delays.{Delays}
 use Rattle.trendline.specs.declared.OptionOveruse.{OptionOveruse}
@@ -37,7 +39,8 @@ use Rattle.trendline.specs.declared.TrendlineEstimator.{TrendlineEstimator}
 use Rattle.rate_control.specs.RateControl.{observedBitRateSmoothingFactor}
 use Rattle.rate_control.specs.declared.RateControl.{RateControl}
 use Rattle.questions.specs.Questions.{bytesIn, windowIn}
-use Rattle.control.specs.Control.{minEstimate, maxEstimate, rttSmoothingFactor}
+use Rattle.control.specs.Control.{rttSmoothingFactor}
+use Rattle.control.specs.Laws.{mostRoundTrip}
 use Rattle.control.specs.declared.DelayController.{DelayController}
 use Rattle.link_state.specs.declared.Link.{Link}
 
@@ -52,48 +55,34 @@ mostOveruse = 2 * 10 ^ 18
 abbrev pub noBytes : DataSize
 noBytes = B.bytes (pos 0)
 
--- 6 and 600 ms
-abbrev pub leastThreshold : Float
-leastThreshold = lit 0x4018_0000_0000_0000
-
-abbrev pub mostThreshold : Float
-mostThreshold = lit 0x4082_c000_0000_0000
-
 -- 10^12 ms
 abbrev pub mostTime : Float
 mostTime = lit 0x426d_1a94_a200_0000
+
+pub mostTime-is : mostTime ≡ decimal (10 ^ 12) 1
+mostTime-is = unfold floats in refl
 
 -- the greatest floats that are not above 10^30 and 10^31
 abbrev pub most30 : Float
 most30 = lit 0x4629_3e59_39a0_8ce9
 
+pub most30-is : most30 ≡ decimal 999_999_999_999_999_879_147_136_483_328 1
+most30-is = unfold floats in refl
+
 abbrev pub most31 : Float
 most31 = lit 0x465f_8def_8808_b024
 
--- the least float that is not below 0.8; and 10^14
+pub most31-is : most31 ≡ decimal (10 ^ 31) 1
+most31-is = unfold floats in refl
+
+-- the least float that is not below 0.8
 abbrev pub leastAcked : Float
 leastAcked = lit 0x3fe9_9999_9999_999a
 
-abbrev pub mostRate : Float
-mostRate = lit 0x42d6_bcc4_1e90_0000
-
--- 10^9 s
-abbrev pub mostRoundTrip : Float
-mostRoundTrip = lit 0x41cd_cd65_0000_0000
+pub leastAcked-is : leastAcked ≡ decimal 8 10
+leastAcked-is = unfold floats in refl
 
 -- ---- kinds of fields
--- from low to high; no NaN is
-abbrev pub within : Float → Float → Float → Bool
-within low high x = Ieee.le low x && Ieee.le x high
-
-abbrev pub present : OptionInstant → Bool
-present Instant.None = false
-present (Instant.Some t) = leb t mostNs
-
-abbrev pub absent : OptionInstant → Bool
-absent Instant.None = true
-absent (Instant.Some t) = false
-
 abbrev pub instantIn : OptionInstant → Bool
 instantIn Instant.None = true
 instantIn (Instant.Some t) = leb t mostNs
@@ -121,7 +110,7 @@ averageIn m factor most =
 -- ---- the acknowledged rate: windows as in question 3; absent or from 0.8 to 10^14
 abbrev pub ackedRateIn : OptionBitrate → Bool
 ackedRateIn Rate.None = true
-ackedRateIn (Rate.Some r) = within leastAcked mostRate (r .0)
+ackedRateIn (Rate.Some r) = within leastAcked (mostRate .0) (r .0)
 
 unfoldable pub ackedIn : AckedBitrateEstimator → Bool
 ackedIn a =
@@ -133,30 +122,17 @@ ackedIn a =
     && leb (a .«current_window») 10000000000
     && instantIn (a .«last_update»)
 
--- ---- a group's times all present, or all absent in the current group only
-abbrev pub firstPresent : OptionFirst → Bool
-firstPresent First.None = false
-firstPresent (First.Some send remote) = leb send mostNs && leb remote mostNs
-
-abbrev pub firstAbsent : OptionFirst → Bool
-firstAbsent First.None = true
-firstAbsent (First.Some send remote) = false
-
-unfoldable pub wholeGroup : ArrivalGroup → Bool
-wholeGroup g = firstPresent (g .first) && present (g .«last_local_send_time») && present (g .«last_remote_recv_time»)
-
-unfoldable pub emptyGroup : ArrivalGroup → Bool
-emptyGroup g = firstAbsent (g .first) && absent (g .«last_local_send_time») && absent (g .«last_remote_recv_time»)
-
-abbrev pub previousIn : OptionGroup → Bool
-previousIn Previous.None = true
-previousIn (Previous.Some g) = wholeGroup g
+-- ---- groups: the times of one are all there, or there is no group, by its type
+abbrev pub groupIn : OptionGroup → Bool
+groupIn G.None = true
+groupIn (G.Some g) =
+    leb (g .«first_local_send_time») mostNs
+    && leb (g .«first_remote_recv_time») mostNs
+    && leb (g .«last_local_send_time») mostNs
+    && leb (g .«last_remote_recv_time») mostNs
 
 unfoldable pub groupsIn : ArrivalGroupAccumulator → Bool
-groupsIn a =
-    instantIn (a .«send_time_origin»)
-    && previousIn (a .«previous_group»)
-    && (wholeGroup (a .«current_group») || emptyGroup (a .«current_group»))
+groupsIn a = instantIn (a .«send_time_origin») && groupIn (a .«previous_group») && groupIn (a .«current_group»)
 
 -- ---- the trendline
 -- a list that rises, or stays, from low to high
@@ -178,7 +154,7 @@ delaysIn d =
     leb (d .«num_delay_variations») 1000
     && within (neg most30) most30 (d .«accumulated_delay»)
     && within (neg most31) most31 (d .«smoothed_delay»)
-    && within leastThreshold mostThreshold (d .«delay_threshold»)
+    && within minThresholdMs maxThresholdMs (d .«delay_threshold»)
     && Ieee.eq (d .«previous_trend») (d .«previous_trend»)
 
 -- overuse time within ±2 × 10^18 ns
@@ -206,7 +182,7 @@ rateControlIn c =
     Ieee.eq (c .«min_bitrate» .0) (minEstimate .0)
     && Ieee.eq (c .«max_bitrate» .0) (maxEstimate .0)
     && within (minEstimate .0) (maxEstimate .0) (c .«estimated_bitrate» .0)
-    && averageIn (c .«averaged_observed_bitrate») observedBitRateSmoothingFactor mostRate
+    && averageIn (c .«averaged_observed_bitrate») observedBitRateSmoothingFactor (mostRate .0)
     && instantIn (c .«last_estimate_update»)
     && durationIn (c .«last_rtt»)
 

@@ -5,12 +5,11 @@ ghost use lib.Ieee as Ieee;
 ghost use lib.ListN.{take};
 ghost use Rattle.link_state.specs.State as State;
 use acked_bitrate_estimator::AckedBitrateEstimator;
-use arrival_group::ArrivalGroup;
 use arrival_group::ArrivalGroupAccumulator;
-use arrival_group::OptionFirst;
 use arrival_group::OptionGroup;
 use average::MovingAverage;
 use average::OptionF64;
+use bandwidth::Bitrate;
 use bandwidth::DataSize;
 use bandwidth::OptionBitrate;
 use control::DelayController;
@@ -40,35 +39,9 @@ const MOST_30: f64 = 999999999999999879147136483328.0;
 
 const MOST_31: f64 = 1e31;
 
-const MOST_RATE: f64 = 1e14;
-
 const MOST_ROUND_TRIP: f64 = 1e9;
 
 // ---- kinds of fields
-fn within(low: f64, high: f64, x: f64) -> bool
-    ensures { λ r. ⌜ r ≡ State.within low high x ⌝ }
-{
-    (low <= x) & (x <= high)
-}
-
-fn present(t: OptionInstant) -> bool
-    ensures { λ r. ⌜ r ≡ State.present t ⌝ }
-{
-    match t {
-        OptionInstant::None => false,
-        OptionInstant::Some(ns) => ns <= MOST_NS,
-    }
-}
-
-fn absent(t: OptionInstant) -> bool
-    ensures { λ r. ⌜ r ≡ State.absent t ⌝ }
-{
-    match t {
-        OptionInstant::None => true,
-        OptionInstant::Some(_) => false,
-    }
-}
-
 fn instant_in(t: OptionInstant) -> bool
     ensures { λ r. ⌜ r ≡ State.instantIn t ⌝ }
 {
@@ -100,7 +73,7 @@ fn average_within(most: f64, average: OptionF64) -> bool
 {
     match average {
         OptionF64::None => true,
-        OptionF64::Some(x) => within(0.0, most, x),
+        OptionF64::Some(x) => float::within(0.0, most, x),
     }
 }
 
@@ -109,7 +82,7 @@ fn average_in(m: MovingAverage, factor: f64, most: f64) -> bool
 {
     let average = m.average;
     let average_ok = average_within(most, average);
-    let variance_ok = within(0.0, MOST_30, m.variance);
+    let variance_ok = float::within(0.0, MOST_30, m.variance);
     let root = sqrt::is_sqrt(m.std, m.variance);
     (m.smoothing_factor == factor) & average_ok & variance_ok & root
 }
@@ -120,7 +93,7 @@ fn acked_rate_in(rate: OptionBitrate) -> bool
 {
     match rate {
         OptionBitrate::None => true,
-        OptionBitrate::Some(x) => within(0.8, MOST_RATE, x.as_f64()),
+        OptionBitrate::Some(x) => x.within(Bitrate(0.8), Bitrate::MOST),
     }
 }
 
@@ -132,55 +105,22 @@ fn acked_in(a: AckedBitrateEstimator) -> bool
     let last_update = a.last_update;
     let windows = questions::window_in(a.initial_window) & questions::window_in(a.window);
     let rate = acked_rate_in(estimate);
-    let variance = within(0.0, MOST_30, a.estimate_var);
+    let variance = float::within(0.0, MOST_30, a.estimate_var);
     let bytes = sum_in(sum, a.current_window);
     let instant = instant_in(last_update);
     windows & rate & variance & bytes & (a.current_window <= 10_000_000_000) & instant
 }
 
 // ---- groups
-fn first_present(first: OptionFirst) -> bool
-    ensures { λ r. ⌜ r ≡ State.firstPresent first ⌝ }
+fn group_in(group: OptionGroup) -> bool
+    ensures { λ r. ⌜ r ≡ State.groupIn group ⌝ }
 {
-    match first {
-        OptionFirst::None => false,
-        OptionFirst::Some(send, remote) => (send <= MOST_NS) & (remote <= MOST_NS),
-    }
-}
-
-fn first_absent(first: OptionFirst) -> bool
-    ensures { λ r. ⌜ r ≡ State.firstAbsent first ⌝ }
-{
-    match first {
-        OptionFirst::None => true,
-        OptionFirst::Some(_, _) => false,
-    }
-}
-
-fn whole_group(g: ArrivalGroup) -> bool
-    ensures { λ r. ⌜ r ≡ State.wholeGroup g ⌝ }
-{
-    let first = g.first;
-    let send = g.last_local_send_time;
-    let remote = g.last_remote_recv_time;
-    first_present(first) & present(send) & present(remote)
-}
-
-fn empty_group(g: ArrivalGroup) -> bool
-    ensures { λ r. ⌜ r ≡ State.emptyGroup g ⌝ }
-{
-    let first = g.first;
-    let send = g.last_local_send_time;
-    let remote = g.last_remote_recv_time;
-    first_absent(first) & absent(send) & absent(remote)
-}
-
-fn previous_in(previous: OptionGroup) -> bool
-    ensures { λ r. ⌜ r ≡ State.previousIn previous ⌝ }
-{
-    match previous {
+    match group {
         OptionGroup::None => true,
-        OptionGroup::Some(g) => whole_group(g),
+        OptionGroup::Some(g) => (g.first_local_send_time <= MOST_NS)
+            & (g.first_remote_recv_time <= MOST_NS)
+            & (g.last_local_send_time <= MOST_NS)
+            & (g.last_remote_recv_time <= MOST_NS),
     }
 }
 
@@ -190,7 +130,7 @@ fn groups_in(a: ArrivalGroupAccumulator) -> bool
     let origin = a.send_time_origin;
     let previous = a.previous_group;
     let current = a.current_group;
-    instant_in(origin) & previous_in(previous) & (whole_group(current) | empty_group(current))
+    instant_in(origin) & group_in(previous) & group_in(current)
 }
 
 // ---- the trendline
@@ -218,7 +158,7 @@ fn all_within(delays: [f64; 20], n: usize) -> bool
 {
     let mut i = 0;
     while i < n {
-        if within(-MOST_31, MOST_31, delays[i]) {
+        if float::within(-MOST_31, MOST_31, delays[i]) {
             i += 1;
         } else {
             return false;
@@ -245,9 +185,13 @@ fn history_in(h: History) -> bool
 fn delays_in(d: Delays) -> bool
     ensures { λ r. ⌜ r ≡ State.delaysIn d ⌝ }
 {
-    let accumulated = within(-MOST_30, MOST_30, d.accumulated_delay);
-    let smoothed = within(-MOST_31, MOST_31, d.smoothed_delay);
-    let threshold = within(6.0, 600.0, d.delay_threshold);
+    let accumulated = float::within(-MOST_30, MOST_30, d.accumulated_delay);
+    let smoothed = float::within(-MOST_31, MOST_31, d.smoothed_delay);
+    let threshold = float::within(
+        Delays::MIN_THRESHOLD_MS,
+        Delays::MAX_THRESHOLD_MS,
+        d.delay_threshold,
+    );
     (d.num_delay_variations <= 1000)
         & accumulated
         & smoothed
@@ -303,9 +247,13 @@ fn rate_control_in(c: RateControl) -> bool
     let average = c.averaged_observed_bitrate;
     let last = c.last_estimate_update;
     let rtt = c.last_rtt;
-    let limits = (low.as_f64() == 40_000.0) & (high.as_f64() == 10_000_000_000.0);
-    let rate = within(40_000.0, 10_000_000_000.0, estimate.as_f64());
-    let observed = average_in(average, 0.95, MOST_RATE);
+    let limits = low.eq(Bitrate::MIN_ESTIMATE) & high.eq(Bitrate::MAX_ESTIMATE);
+    let rate = estimate.within(Bitrate::MIN_ESTIMATE, Bitrate::MAX_ESTIMATE);
+    let observed = average_in(
+        average,
+        RateControl::OBSERVED_BIT_RATE_SMOOTHING_FACTOR,
+        Bitrate::MOST.0,
+    );
     limits & rate & observed & instant_in(last) & duration_in(rtt)
 }
 
@@ -320,7 +268,7 @@ fn control_in(c: DelayController) -> bool
     groups_in(groups)
         & trendline_in(trendline)
         & rate_control_in(rate_control)
-        & average_in(rtt, 0.125, MOST_ROUND_TRIP)
+        & average_in(rtt, DelayController::RTT_SMOOTHING_FACTOR, MOST_ROUND_TRIP)
         & (c.next_timeout <= MOST_NS)
         & instant_in(last)
 }

@@ -10,7 +10,7 @@ use lib.Dec.{ltb}
 use lib.ListN.{length, set, take, drop, length-append}
 use lib.Seq.{sets, sets-eq}
 use borrow.Author.Tests.{le-leb, lt-leb, lt-ltb, le-ltb, ltb-true, ltb-false}
-use Rattle.listing_line.specs.ListingLine.{digit, digits, widthBy, width, decimal, hexadecimal, space, lineFeed, field, line, putLine, placeAfter, Wrote}
+use Rattle.listing_line.specs.ListingLine.{digit, digits, widthBy, width, decimal, hexadecimal, space, lineFeed, field, line, numberLine, putLine, placeAfter, Wrote}
 
 -- ---- the length of a line
 pub length-digits : (b k n : ℕ) → length (digits b k n) ≡ k
@@ -61,6 +61,9 @@ width-pos n = widthBy-pos 19 n
 pub width-gt : (d n : ℕ) → d ≤ 19 → 10 ^ d ≤ n → d < width n
 unfolding width
 width-gt d n i h = widthBy-gt d 19 n i h
+
+pub length-number : (n : ℕ) → length (numberLine n) ≡ width n + 1
+length-number n = simp (length-append, length-digits) (omega arith)
 
 module _ («record» number letter bits nextTimeout : ℕ) where
   pub length-line : length (line «record» number letter bits nextTimeout) ≡ width «record» + width number + width nextTimeout + 22

@@ -52,6 +52,10 @@ line «record» number letter bits nextTimeout =
     ++ field (hexadecimal bits) space
     ++ field (decimal nextTimeout) lineFeed
 
+-- a number alone on a line
+abbrev pub numberLine : ℕ → List ℕ
+numberLine n = field (decimal n) lineFeed
+
 -- whether a text has room in a buffer from place at on
 abbrev pub hasRoom : List ℕ → ℕ → List ℕ → Bool
 hasRoom out at text = leb (at + length text) (length out)

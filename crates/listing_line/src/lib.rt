@@ -1,14 +1,18 @@
-// Document 01, pass file and program: one line of the listing, written into a lent buffer.
+// Document 01, pass file and program: one line of the listing, or a number alone on a line, written into a lent buffer.
 ghost use mathlib.Core.Path.{_≡_};
 ghost use mathlib.Core.List.{[], _∷_};
 ghost use Prim.Native.Nat.{_+_, _≤_, _<_};
 ghost use lib.ListN.{length};
 ghost use Rattle.listing_line.specs.ListingLine as Line;
 
-fn digit(d: u8) -> u8
-    requires { ⌜ d < 16 ⌝ }
+// The digit d in base b. A string is put on the stack where it is read, which the digits of base 10 can do without.
+fn digit(d: u8, b: u64) -> u8
+    requires { ⌜ (d < b) × (b ≤ 16) ⌝ }
     ensures { λ r. ⌜ r ≡ Line.digit d ⌝ }
 {
+    if b == 10 {
+        return b'0' + d;
+    }
     let digits = b"0123456789abcdef";
     digits[d as usize]
 }
@@ -38,7 +42,7 @@ fn put_digits(out: &mut [u8], at: usize, n: u64, b: u64, k: usize, end: u8) -> u
     let mut rest = n;
     while 0 < i {
         i -= 1;
-        out[at + i] = digit((rest % b) as u8);
+        out[at + i] = digit((rest % b) as u8, b);
         rest /= b;
     }
     out[at + k] = end;
@@ -102,4 +106,19 @@ pub fn put_line(
         return at;
     }
     put_fields(out, at, record, number, letter, bits, next_timeout, a, b, c)
+}
+
+// The same of a number alone on a line.
+pub fn put_number(out: &mut [u8], at: usize, number: u64) -> usize
+    ensures { λ _. ⌜ now (out .exit) ≡ Line.putLine (now (out .entry)) at (Line.numberLine number) ⌝ }
+    ensures { λ r. ⌜ r ≡ Line.placeAfter (now (out .entry)) at (Line.numberLine number) ⌝ }
+{
+    let w = width(number);
+    if out.len() < at {
+        return at;
+    }
+    if out.len() - at <= w {
+        return at;
+    }
+    put_digits(out, at, number, 10, w, 10)
 }

@@ -1,6 +1,6 @@
 -- What the proofs of the listing cite: the packets that are kept, the calls that they make, and the lines that are left along the chain.
 use mathlib.Core.Path.{_≡_, refl, sym, ap, subst, _∙_}
-use Prim.Native.Nat.{ℕ, suc, _+_, _-_, _≤_, _<_, min}
+use Prim.Native.Nat.{ℕ, zero, suc, _+_, _-_, _≤_, _<_, min}
 use mathlib.Core.Bool.{Bool, true, false, cond, and-false}
 use mathlib.Core.List.{List, [], _∷_, _++_, map, map-append}
 use native.Mathlib.Nat.{sub-zero}
@@ -10,30 +10,29 @@ use lib.ListN.{length, set, take, drop, length-append, length-set, length-take, 
 use lib.Seq.{sets, length-sets, length-take-le, sets-eq, set-out, take-all, take-append-le, take-nil, take-suc-set}
 use borrow.Author.Tests.{eq-eqb, ne-eqb, lt-leb, leb-true, leb-false, ltb-true, ltb-false}
 use Rattle.acked_bitrate_estimator.specs.declared.AckedBitrateEstimator.{AckedBitrateEstimator}
-use Rattle.trendline.specs.Cases.{cases}
+use Rattle.bool_laws.specs.Bools.{cases}
 use Rattle.bandwidth.specs.declared.BandwidthUsage.{BandwidthUsage}
 use Rattle.bandwidth.specs.declared.Bitrate.{Bitrate}
 use Rattle.bandwidth.specs.declared.OptionBitrate.{OptionBitrate}
 use Rattle.control.specs.Control as Control
 use Rattle.control.specs.declared.DelayController.{DelayController}
 use Rattle.receive_order.specs.ReceiveOrder.{mostPackets}
+use Rattle.questions.specs.Questions.{Report, firstNo, listsIn, ofTimeout, report-of}
 use Rattle.link_state.specs.State.{inRange}
 use Rattle.link_state.specs.declared.Link.{Link}
 use Rattle.link.specs.Link as L
-use Rattle.link.specs.Link.{Outcome, Report, acceptedWith, listsIn, momentIn, refusal, report-of, timedOut}
-use Rattle.link.specs.Laws.{report-4, report-in-range, timeout-7, timeout-in-range, timeout-yes}
+use Rattle.link.specs.Link.{Outcome, acceptedWith, outcomeUnless, refusal, refusedBy, timedOut}
+use Rattle.link.specs.Laws.{outcome-refused, report-4, timeout-from-7}
 use Rattle.link_runs.specs.Statement.{Call, call, report, timeout}
 use Rattle.link_runs.specs.Good.{Good, call-good}
 use Rattle.link_runs.specs.InRange.{good-in-range}
-use Rattle.pass_records.specs.declared.Following.{Following}
 use Rattle.pass_records.specs.PassRecords as Records
-use Rattle.pass_records.specs.Laws.{chain-step}
-use Rattle.pass_records.specs.PassRecords.{chainFrom, follows, kind, onward, receive, recordAt, remote, send, sequence, size}
-use Rattle.pass_records.specs.Record.{receive-record, remote-record, send-record, sequence-record, size-record}
+use Rattle.pass_records.specs.Laws.{OnChain, onward-linked}
+use Rattle.pass_records.specs.PassRecords.{chainFrom, kind, next, receive, recordAt, remote, send, sequence, size}
 use Rattle.listing_line.specs.ListingLine.{Wrote, placeAfter, putLine}
 use Rattle.listing_line.specs.Laws.{put-room, sets-append}
 use Rattle.pass_file.specs.PassFile.{KeptLengths, callAt, callOf, calls, first, lineOf, lineWith, lines, listing, mostWaiting, oneMore, probe, shown}
-use Rattle.pass_file.specs.Judged.{JudgesReport, linkOf, reportOfFirst, timeoutNumber}
+use Rattle.pass_file.specs.Judged.{JudgesReport, linkOf, reportOfFirst}
 use Rattle.pass_file.specs.Laws.{first-good}
 
 -- ---- the text that is left
@@ -53,46 +52,46 @@ left-none l = record { bytes = sym (l .bytes); after = omega arith }
 
 -- ---- the packets that are kept
 -- of a list of length m, the first n numbers are field f of the records that wait, of the first m if there are more
-pub record Keeps (m : ℕ) (f : ℕ → ℕ) (waiting : List ℕ) (n : ℕ) (list : List ℕ) : Type 0 where
+pub record Keeps (m : ℕ) (f : List ℕ → ℕ) (waiting : List (List ℕ)) (n : ℕ) (list : List ℕ) : Type 0 where
   pub room : length list ≡ m
   pub kept : take n list ≡ map f (take m waiting)
 
-pub record Kept (file waiting : List ℕ) (n : ℕ) (sequences sizes sends remotes receives : List ℕ) : Type 0 where
+pub record Kept (waiting : List (List ℕ)) (n : ℕ) (sequences sizes sends remotes receives : List ℕ) : Type 0 where
   pub few : n ≤ mostWaiting
-  pub sequences-kept : Keeps mostWaiting (sequence file) waiting n sequences
-  pub sizes-kept : Keeps mostWaiting (size file) waiting n sizes
-  pub sends-kept : Keeps mostWaiting (send file) waiting n sends
-  pub remotes-kept : Keeps mostWaiting (remote file) waiting n remotes
-  pub receives-kept : Keeps mostWaiting (receive file) waiting n receives
+  pub sequences-kept : Keeps mostWaiting sequence waiting n sequences
+  pub sizes-kept : Keeps mostWaiting size waiting n sizes
+  pub sends-kept : Keeps mostWaiting send waiting n sends
+  pub remotes-kept : Keeps mostWaiting remote waiting n remotes
+  pub receives-kept : Keeps mostWaiting receive waiting n receives
 
-keeps-none : {m : ℕ} {f : ℕ → ℕ} {list : List ℕ} → length list ≡ m → Keeps m f [] 0 list
+keeps-none : {m : ℕ} {f : List ℕ → ℕ} {list : List ℕ} → length list ≡ m → Keeps m f [] 0 list
 keeps-none h = record { room = h; kept = rw take-nil }
 
--- record k is kept too where there is a place left, and else nothing changes
-keeps-more : {m n : ℕ} {f : ℕ → ℕ} {waiting list after : List ℕ} (k : ℕ) → n ≤ m → Keeps m f waiting n list → after ≡ set list n (f k)
-    → Keeps m f (waiting ++ (k ∷ [])) (cond (ltb n m) (suc n) n) after
-keeps-more {m} {n} {f} {waiting} {list} {after} k h p e =
+-- a record is kept too where there is a place left, and else nothing changes
+keeps-more : {m n : ℕ} {f : List ℕ → ℕ} {waiting : List (List ℕ)} {list after : List ℕ} (bytes : List ℕ) → n ≤ m → Keeps m f waiting n list → after ≡ set list n (f bytes)
+    → Keeps m f (waiting ++ (bytes ∷ [])) (cond (ltb n m) (suc n) n) after
+keeps-more {m} {n} {f} {waiting} {list} {after} bytes h p e =
     let room : length after ≡ m = rw (e, length-set) (p .room) in
     let count : n ≡ min m (length waiting) =
     omega (arith, length-take-le n list (omega (arith, p .room)), ap length (p .kept), length-map (take m waiting) f, length-take m waiting) in
-    cases (λ r. Keeps m f (waiting ++ (k ∷ [])) r after) (ltb n m)
+    cases (λ r. Keeps m f (waiting ++ (bytes ∷ [])) r after) (ltb n m)
     (λ t.
     let some = ltb-true n m t in
-    let l : length (waiting ++ (k ∷ [])) ≡ suc n = simp length-append (omega arith) in
+    let l : length (waiting ++ (bytes ∷ [])) ≡ suc n = simp length-append (omega arith) in
     record {
       room = room;
       kept =
-          rw (e, take-suc-set list n (f k) (omega (arith, p .room)), p .kept, take-all m waiting (omega arith), take-all m (waiting ++ (k ∷ [])) (omega arith), map-append);
+          rw (e, take-suc-set list n (f bytes) (omega (arith, p .room)), p .kept, take-all m waiting (omega arith), take-all m (waiting ++ (bytes ∷ [])) (omega arith), map-append);
     })
     (λ t.
     let none = ltb-false n m t in
     record {
       room = room;
-      kept = rw (e, set-out list n (f k) (omega (arith, p .room)), take-append-le m waiting (k ∷ []) (omega arith)) (p .kept);
+      kept = rw (e, set-out list n (f bytes) (omega (arith, p .room)), take-append-le m waiting (bytes ∷ []) (omega arith)) (p .kept);
     })
 
-module _ {file sequences sizes sends remotes receives : List ℕ} where
-  none-kept : KeptLengths sequences sizes sends remotes receives → Kept file [] 0 sequences sizes sends remotes receives
+module _ {sequences sizes sends remotes receives : List ℕ} where
+  none-kept : KeptLengths sequences sizes sends remotes receives → Kept [] 0 sequences sizes sends remotes receives
   none-kept h = record {
     few = omega arith;
     sequences-kept = keeps-none (h .0);
@@ -102,20 +101,20 @@ module _ {file sequences sizes sends remotes receives : List ℕ} where
     receives-kept = keeps-none (h .4);
   }
 
-  one-more-kept : {waiting sequences₁ sizes₁ sends₁ remotes₁ receives₁ : List ℕ} {n next : ℕ} (k : ℕ) → Kept file waiting n sequences sizes sends remotes receives
+  one-more-kept : {waiting : List (List ℕ)} {sequences₁ sizes₁ sends₁ remotes₁ receives₁ : List ℕ} {n next : ℕ} (bytes : List ℕ) → Kept waiting n sequences sizes sends remotes receives
       → next ≡ oneMore n
-      → sequences₁ ≡ set sequences n (sequence file k) → sizes₁ ≡ set sizes n (size file k) → sends₁ ≡ set sends n (send file k)
-      → remotes₁ ≡ set remotes n (remote file k) → receives₁ ≡ set receives n (receive file k)
-      → Kept file (waiting ++ (k ∷ [])) next sequences₁ sizes₁ sends₁ remotes₁ receives₁
-  one-more-kept {n = n} k p e a b c d f =
+      → sequences₁ ≡ set sequences n (sequence bytes) → sizes₁ ≡ set sizes n (size bytes) → sends₁ ≡ set sends n (send bytes)
+      → remotes₁ ≡ set remotes n (remote bytes) → receives₁ ≡ set receives n (receive bytes)
+      → Kept (waiting ++ (bytes ∷ [])) next sequences₁ sizes₁ sends₁ remotes₁ receives₁
+  one-more-kept {n = n} bytes p e a b c d f =
       rw e
       (record {
         few = cases (λ r. r ≤ mostWaiting) (ltb n mostWaiting) (λ t. omega (arith, ltb-true n mostWaiting t)) (λ t. p .few);
-        sequences-kept = keeps-more k (p .few) (p .sequences-kept) a;
-        sizes-kept = keeps-more k (p .few) (p .sizes-kept) b;
-        sends-kept = keeps-more k (p .few) (p .sends-kept) c;
-        remotes-kept = keeps-more k (p .few) (p .remotes-kept) d;
-        receives-kept = keeps-more k (p .few) (p .receives-kept) f;
+        sequences-kept = keeps-more bytes (p .few) (p .sequences-kept) a;
+        sizes-kept = keeps-more bytes (p .few) (p .sizes-kept) b;
+        sends-kept = keeps-more bytes (p .few) (p .sends-kept) c;
+        remotes-kept = keeps-more bytes (p .few) (p .remotes-kept) d;
+        receives-kept = keeps-more bytes (p .few) (p .receives-kept) f;
       })
 
 -- ---- the calls that they make
@@ -126,59 +125,59 @@ too-many sequences sizes sends remotes receives h = rw (lt-leb (length sequences
 -- two reports with too many packets are refused alike
 refused-alike : (l : Link) (r s : Report) → inRange l ≡ true → mostPackets < length (r .sequences) → mostPackets < length (s .sequences) → L.report l r ≡ L.report l s
 refused-alike l r s y1 h i =
-    sym (report-in-range l r y1) ∙ report-4 l r (too-many _ _ _ _ _ h) ∙ sym (report-4 l s (too-many _ _ _ _ _ i)) ∙ report-in-range l s y1
+    report-4 l r y1 (too-many _ _ _ _ _ h) ∙ sym (report-4 l s y1 (too-many _ _ _ _ _ i))
 
 -- the packets that are not kept change no answer
-kept-enough : (l : Link) → inRange l ≡ true → (file : List ℕ) (k : ℕ) (waiting : List ℕ) → call l (callAt file k (take mostWaiting waiting)) ≡ call l (callAt file k waiting)
-kept-enough l y1 file k waiting = go (leb (length waiting) mostWaiting) refl
+kept-enough : (l : Link) → inRange l ≡ true → (bytes : List ℕ) (waiting : List (List ℕ)) → call l (callAt bytes (take mostWaiting waiting)) ≡ call l (callAt bytes waiting)
+kept-enough l y1 bytes waiting = go (leb (length waiting) mostWaiting) refl
   where
-    reported : List ℕ → Report
-    reported ws = report-of (map (sequence file) ws) (map (size file) ws) (map (send file) ws) (map (remote file) ws) (map (receive file) ws) (probe file k) (receive file k)
+    reported : List (List ℕ) → Report
+    reported ws = report-of (map sequence ws) (map size ws) (map send ws) (map remote ws) (map receive ws) (probe bytes) (receive bytes)
 
     same : (t : Bool) → L.report l (reported (take mostWaiting waiting)) ≡ L.report l (reported waiting)
-        → call l (cond t (report (reported (take mostWaiting waiting))) (timeout (receive file k))) ≡ call l (cond t (report (reported waiting)) (timeout (receive file k)))
+        → call l (cond t (report (reported (take mostWaiting waiting))) (timeout (receive bytes))) ≡ call l (cond t (report (reported waiting)) (timeout (receive bytes)))
     same true e = e
     same false e = refl
 
-    go : (t : Bool) → leb (length waiting) mostWaiting ≡ t → call l (callAt file k (take mostWaiting waiting)) ≡ call l (callAt file k waiting)
+    go : (t : Bool) → leb (length waiting) mostWaiting ≡ t → call l (callAt bytes (take mostWaiting waiting)) ≡ call l (callAt bytes waiting)
     go true h = rw (take-all mostWaiting waiting (leb-true _ _ h))
     go false h =
         let many = leb-false (length waiting) mostWaiting h in
-        same (eqb (kind file k) Records.report)
+        same (eqb (kind bytes) Records.report)
         (refused-alike l (reported (take mostWaiting waiting)) (reported waiting) y1
         (simp (length-map, length-take-le mostWaiting waiting (omega arith)) (omega arith))
         (simp length-map (omega arith)))
 
-kept-part : {m n : ℕ} {f : ℕ → ℕ} {waiting list : List ℕ} → Keeps m f waiting n list → take (n - 0) list ≡ map f (take m waiting)
+kept-part : {m n : ℕ} {f : List ℕ → ℕ} {waiting : List (List ℕ)} {list : List ℕ} → Keeps m f waiting n list → take (n - 0) list ≡ map f (take m waiting)
 kept-part {n = n} {list = list} p = ap (λ (j : ℕ). take j list) (sub-zero n) ∙ p .kept
 
 -- the call with the lists that keep them is the call with all that wait
 kept-call :
-    {file waiting sequences sizes sends remotes receives : List ℕ} {n : ℕ} (l : Link) (k : ℕ) → inRange l ≡ true → Kept file waiting n sequences sizes sends remotes receives
-    → call l (callOf file k (take (n - 0) sequences) (take (n - 0) sizes) (take (n - 0) sends) (take (n - 0) remotes) (take (n - 0) receives)) ≡ call l (callAt file k waiting)
-kept-call {file} {waiting} l k y1 p =
-    rw (kept-part (p .sequences-kept), kept-part (p .sizes-kept), kept-part (p .sends-kept), kept-part (p .remotes-kept), kept-part (p .receives-kept)) (kept-enough l y1 file k waiting)
+    {waiting : List (List ℕ)} {sequences sizes sends remotes receives : List ℕ} {n : ℕ} (l : Link) (bytes : List ℕ) → inRange l ≡ true → Kept waiting n sequences sizes sends remotes receives
+    → call l (callOf bytes (take (n - 0) sequences) (take (n - 0) sizes) (take (n - 0) sends) (take (n - 0) remotes) (take (n - 0) receives)) ≡ call l (callAt bytes waiting)
+kept-call {waiting} l bytes y1 p =
+    rw (kept-part (p .sequences-kept), kept-part (p .sizes-kept), kept-part (p .sends-kept), kept-part (p .remotes-kept), kept-part (p .receives-kept)) (kept-enough l y1 bytes waiting)
 
 -- ---- the lines that are left
 -- the lines of the records ks are left to write, the lists keep the packets that wait for them, and the link is good
 pub record Progress (file old ks out sequences sizes sends remotes receives : List ℕ) (link : Link) (n at : ℕ) : Type 0 where
-  pub waiting : List ℕ
+  pub waiting : List (List ℕ)
   pub good : Good link
-  pub kept : Kept file waiting n sequences sizes sends remotes receives
+  pub kept : Kept waiting n sequences sizes sends remotes receives
   pub fits : length (listing file) ≤ length old
   pub size : length out ≡ length old
   pub left : Left old (listing file) out at (lines link (calls file waiting ks))
 
-module _ (file waiting ks : List ℕ) (k : ℕ) where
-  calls-packet : kind file k ≡ Records.packet → calls file waiting (k ∷ ks) ≡ calls file (waiting ++ (k ∷ [])) ks
+module _ (file : List ℕ) (waiting : List (List ℕ)) (ks : List ℕ) (k : ℕ) {bytes : List ℕ} (b : bytes ≡ recordAt file k) where
+  calls-packet : kind bytes ≡ Records.packet → calls file waiting (k ∷ ks) ≡ calls file (waiting ++ (bytes ∷ [])) ks
   unfolding calls
-  calls-packet h = rw (eq-eqb (kind file k) Records.packet h)
+  calls-packet h = rw (← b, eq-eqb (kind bytes) Records.packet h)
 
-  lines-call : (l : Link) → (kind file k ≡ Records.packet → ⊥)
+  lines-call : (l : Link) → (kind bytes ≡ Records.packet → ⊥)
       → lines l (calls file waiting (k ∷ ks))
-      ≡ shown k (call l (callAt file k waiting)) ++ lines (call l (callAt file k waiting) .link) (calls file (cond (eqb (kind file k) Records.report) [] waiting) ks)
+      ≡ shown k (call l (callAt bytes waiting)) ++ lines (call l (callAt bytes waiting) .link) (calls file (cond (eqb (kind bytes) Records.report) [] waiting) ks)
   unfolding calls lines
-  lines-call l h = rw (ne-eqb (kind file k) Records.packet h)
+  lines-call l h = rw (← b, ne-eqb (kind bytes) Records.packet h)
 
 -- what a call gives: its number, and the link after it
 pub record Gives (o : Outcome) (number : ℕ) (after : Link) : Type 0 where
@@ -214,15 +213,18 @@ written p = left-none (p .left)
 
 module _ {file old out sequences sizes sends remotes receives : List ℕ} {link : Link} {n at : ℕ} where
   -- record k is the first of those left
-  pub unrolled : (last k : ℕ) → k ≤ last → Progress file old (chainFrom file last k) out sequences sizes sends remotes receives link n at
-      → Progress file old (k ∷ onward (follows file last k) (chainFrom file last)) out sequences sizes sends remotes receives link n at
-  unrolled last k h p = rw (chain-step file last k h) at p
+  pub unrolled : {bytes : List ℕ} (last k : ℕ) → bytes ≡ recordAt file k → OnChain file last k → Progress file old (chainFrom file last k) out sequences sizes sends remotes receives link n at
+      → Progress file old (k ∷ cond (eqb (next bytes) 0) [] (chainFrom file last (next bytes))) out sequences sizes sends remotes receives link n at
+  unrolled last k b o p = rw b (rw (onward-linked file last k o .chain-is) at p)
 
-  -- after it, those that follow are left
-  pub onward-by : (last k : ℕ) (t : Following) → follows file last k ≡ t
-      → Progress file old (onward (follows file last k) (chainFrom file last)) out sequences sizes sends remotes receives link n at
-      → Progress file old (onward t (chainFrom file last)) out sequences sizes sends remotes receives link n at
-  onward-by last k t e p = rw e at p
+  -- after it those from the record that it names, if it names one
+  module _ (last : ℕ) {named : ℕ} (bytes : List ℕ) (e : named ≡ next bytes)
+      (p : Progress file old (cond (eqb (next bytes) 0) [] (chainFrom file last (next bytes))) out sequences sizes sends remotes receives link n at) where
+    pub none-left : named ≡ 0 → Progress file old [] out sequences sizes sends remotes receives link n at
+    none-left z = rw (← e, z) at p
+
+    pub left-from : (named ≡ 0 → ⊥) → Progress file old (chainFrom file last named) out sequences sizes sends remotes receives link n at
+    left-from z = rw (← e, ne-eqb named 0 z) at p
 
 module _ {file old ks out sequences sizes sends remotes receives : List ℕ} {link : Link} {n at : ℕ} where
   -- the same of values that equal these
@@ -232,64 +234,59 @@ module _ {file old ks out sequences sizes sends remotes receives : List ℕ} {li
       → Progress file old ks out₁ sequences₁ sizes₁ sends₁ remotes₁ receives₁ link₁ n₁ at₁
   same-progress a b c d e f g h i p = rw (a, b, c, d, e, f, g, h, i) p
 
-  -- a packet joins those that wait
-  pub joined : {bytes sequences₁ sizes₁ sends₁ remotes₁ receives₁ : List ℕ} {k next : ℕ} → bytes ≡ recordAt file k → kind file k ≡ Records.packet
-      → Progress file old (k ∷ ks) out sequences sizes sends remotes receives link n at → next ≡ oneMore n
-      → sequences₁ ≡ set sequences n (sequence bytes 1) → sizes₁ ≡ set sizes n (size bytes 1) → sends₁ ≡ set sends n (send bytes 1)
-      → remotes₁ ≡ set remotes n (remote bytes 1) → receives₁ ≡ set receives n (receive bytes 1)
-      → Progress file old ks out sequences₁ sizes₁ sends₁ remotes₁ receives₁ link next at
-  joined {k = k} b h p e a₀ a₁ a₂ a₃ a₄ = record {
-    waiting = p .waiting ++ (k ∷ []);
-    good = p .good;
-    kept = one-more-kept k (p .kept) e (rw (b, sequence-record) at a₀) (rw (b, size-record) at a₁) (rw (b, send-record) at a₂) (rw (b, remote-record) at a₃) (rw (b, receive-record) at a₄);
-    fits = p .fits;
-    size = p .size;
-    left = rw (calls-packet file (p .waiting) ks k h) at (p .left);
-  }
+  module _ {bytes : List ℕ} {k : ℕ} (b : bytes ≡ recordAt file k) (p : Progress file old (k ∷ ks) out sequences sizes sends remotes receives link n at) where
+    -- a packet joins those that wait
+    pub joined : {sequences₁ sizes₁ sends₁ remotes₁ receives₁ : List ℕ} {next : ℕ} → kind bytes ≡ Records.packet → next ≡ oneMore n
+        → sequences₁ ≡ set sequences n (sequence bytes) → sizes₁ ≡ set sizes n (size bytes) → sends₁ ≡ set sends n (send bytes)
+        → remotes₁ ≡ set remotes n (remote bytes) → receives₁ ≡ set receives n (receive bytes)
+        → Progress file old ks out sequences₁ sizes₁ sends₁ remotes₁ receives₁ link next at
+    joined h e a₀ a₁ a₂ a₃ a₄ = record {
+      waiting = p .waiting ++ (bytes ∷ []);
+      good = p .good;
+      kept = one-more-kept bytes (p .kept) e a₀ a₁ a₂ a₃ a₄;
+      fits = p .fits;
+      size = p .size;
+      left = rw (calls-packet file (p .waiting) ks k b h) at (p .left);
+    }
 
-  -- a call is made, and its line written
-  pub called : {new sequences₁ sizes₁ sends₁ remotes₁ receives₁ : List ℕ} {after : Link} {k next place number : ℕ} → (kind file k ≡ Records.packet → ⊥)
-      → (p : Progress file old (k ∷ ks) out sequences sizes sends remotes receives link n at)
-      → Gives (call link (callOf file k (take (n - 0) sequences) (take (n - 0) sizes) (take (n - 0) sends) (take (n - 0) remotes) (take (n - 0) receives))) number after
-      → new ≡ putLine out at (lineOf k number (after .control)) → place ≡ placeAfter out at (lineOf k number (after .control))
-      → Kept file (cond (eqb (kind file k) Records.report) [] (p .waiting)) next sequences₁ sizes₁ sends₁ remotes₁ receives₁
-      → Progress file old ks new sequences₁ sizes₁ sends₁ remotes₁ receives₁ after next place
-  called {after = after} {k = k} {number = number} h p g a b t =
-      let o = kept-call link k (good-in-range link (p .good)) (p .kept) in
-      let q = subst (λ u. Gives u number after) o g in
-      let l = rw (lines-call file (p .waiting) ks k link h, gives-shown k q, q .link-is) at (p .left) in
-      let w = put-room out at (lineOf k number (after .control)) (omega (arith, p .fits, p .size, simp length-append at (l .after))) in
-      rw (a, b)
-      (record {
-        waiting = cond (eqb (kind file k) Records.report) [] (p .waiting);
-        good = rw (q .link-is) at (call-good link (callAt file k (p .waiting)) (p .good));
-        kept = t;
-        fits = p .fits;
-        size = ap length (w .bytes) ∙ length-sets out at (lineOf k number (after .control)) ∙ p .size;
-        left = left-wrote l w;
-      })
+    -- a call is made, and its line written
+    pub called : {new sequences₁ sizes₁ sends₁ remotes₁ receives₁ : List ℕ} {after : Link} {next place number : ℕ} → (kind bytes ≡ Records.packet → ⊥)
+        → Gives (call link (callOf bytes (take (n - 0) sequences) (take (n - 0) sizes) (take (n - 0) sends) (take (n - 0) remotes) (take (n - 0) receives))) number after
+        → new ≡ putLine out at (lineOf k number (after .control)) → place ≡ placeAfter out at (lineOf k number (after .control))
+        → Kept (cond (eqb (kind bytes) Records.report) [] (p .waiting)) next sequences₁ sizes₁ sends₁ remotes₁ receives₁
+        → Progress file old ks new sequences₁ sizes₁ sends₁ remotes₁ receives₁ after next place
+    called {after = after} {number = number} h g a d t =
+        let o = kept-call link bytes (good-in-range link (p .good)) (p .kept) in
+        let q = subst (λ u. Gives u number after) o g in
+        let l = rw (lines-call file (p .waiting) ks k b link h, gives-shown k q, q .link-is) at (p .left) in
+        let w = put-room out at (lineOf k number (after .control)) (omega (arith, p .fits, p .size, simp length-append at (l .after))) in
+        rw (a, d)
+        (record {
+          waiting = cond (eqb (kind bytes) Records.report) [] (p .waiting);
+          good = rw (q .link-is) at (call-good link (callAt bytes (p .waiting)) (p .good));
+          kept = t;
+          fits = p .fits;
+          size = ap length (w .bytes) ∙ length-sets out at (lineOf k number (after .control)) ∙ p .size;
+          left = left-wrote l w;
+        })
 
 -- ---- what the two kinds of calls give
-moment-yes : (t : Bool) → _≡_ {A = ℕ} (cond t 0 7) 0 → t ≡ true
-moment-yes true e = refl
-moment-yes false e = absurd (omega arith)
+above : (n : ℕ) → (n ≡ 0 → ⊥) → 0 < n
+above zero z = absurd (z refl)
+above (suc n) z = omega arith
 
-moment-no : (t : Bool) → (_≡_ {A = ℕ} (cond t 0 7) 0 → ⊥) → t ≡ false
-moment-no true h = absurd (h refl)
-moment-no false h = refl
-
-module _ (file sequences sizes sends remotes receives : List ℕ) (k n : ℕ) (acked : AckedBitrateEstimator) (control : DelayController) (y1 : inRange (linkOf acked control) ≡ true) where
+module _ (bytes sequences sizes sends remotes receives : List ℕ) (n : ℕ) (acked : AckedBitrateEstimator) (control : DelayController) (y1 : inRange (linkOf acked control) ≡ true) where
   abbrev callHere : Call
-  callHere = callOf file k (take (n - 0) sequences) (take (n - 0) sizes) (take (n - 0) sends) (take (n - 0) remotes) (take (n - 0) receives)
+  callHere = callOf bytes (take (n - 0) sequences) (take (n - 0) sizes) (take (n - 0) sends) (take (n - 0) remotes) (take (n - 0) receives)
 
   abbrev reportHere : Report
-  reportHere = reportOfFirst n sequences sizes sends remotes receives (probe file k) (receive file k)
+  reportHere = reportOfFirst n sequences sizes sends remotes receives (probe bytes) (receive bytes)
 
-  the-report : kind file k ≡ Records.report → L.reportInRange (linkOf acked control) reportHere ≡ call (linkOf acked control) callHere
-  the-report h = rw (eq-eqb (kind file k) Records.report h, sub-zero n) (report-in-range (linkOf acked control) reportHere y1)
+  the-report : kind bytes ≡ Records.report → L.report (linkOf acked control) reportHere ≡ call (linkOf acked control) callHere
+  the-report h = rw (eq-eqb (kind bytes) Records.report h, sub-zero n)
 
   -- a report that is accepted, and one that is not
-  module _ (h : kind file k ≡ Records.report) {p : OptionBitrate} {t : ℕ} (ep : p ≡ probe file k) (et : t ≡ receive file k) {number : ℕ} {after : AckedBitrateEstimator} (sends₁ remotes₁ receives₁ : List ℕ)
+  module _ (h : kind bytes ≡ Records.report) {p : OptionBitrate} {t : ℕ} (ep : p ≡ probe bytes) (et : t ≡ receive bytes) {number : ℕ} {after : AckedBitrateEstimator} (sends₁ remotes₁ receives₁ : List ℕ)
       (j : JudgesReport acked (reportOfFirst n sequences sizes sends remotes receives p t) number after (take n sends₁) (take n remotes₁) (take n receives₁)) where
     judged-here : JudgesReport acked reportHere number after (take n sends₁) (take n remotes₁) (take n receives₁)
     judged-here = rw (ep, et) at j
@@ -298,29 +295,24 @@ module _ (file sequences sizes sends remotes receives : List ℕ) (k n : ℕ) (a
         → control₁ ≡ Control.update control (take (n - 0) sends₁) (take (n - 0) remotes₁) (take (n - 0) receives₁) rate p t
         → Gives (call (linkOf acked control) callHere) number (linkOf after control₁)
     unfolding acceptedWith
-    report-accepted z er e = rw (← the-report h, judged-here .accepts z control, e, er, ep, et, sub-zero n, z) (record { number-is = refl; link-is = refl })
+    report-accepted z er e = rw (← the-report h, judged-here .accepts z control y1, e, er, ep, et, sub-zero n, z) (record { number-is = refl; link-is = refl })
 
     pub report-refused : (number ≡ 0 → ⊥) → Gives (call (linkOf acked control) callHere) number (linkOf after control)
-    report-refused z = rw (← the-report h, judged-here .refuses z .1 control, judged-here .refuses z .0) (record { number-is = refl; link-is = refl })
+    report-refused z = rw (← the-report h, judged-here .refuses z .1 control y1, judged-here .refuses z .0) (record { number-is = refl; link-is = refl })
 
   -- a timeout
-  module _ (h : kind file k ≡ Records.report → ⊥) where
-    the-timeout : L.timeoutInRange (linkOf acked control) (receive file k) ≡ call (linkOf acked control) callHere
-    the-timeout = rw (ne-eqb (kind file k) Records.report h) (timeout-in-range (linkOf acked control) (receive file k) y1)
+  module _ (h : kind bytes ≡ Records.report → ⊥) where
+    module _ {t : ℕ} (et : t ≡ receive bytes) {number : ℕ} (e : number ≡ firstNo (ofTimeout t)) where
+      the-timeout : call (linkOf acked control) callHere ≡ outcomeUnless number (linkOf acked control) (timedOut (linkOf acked control) (receive bytes))
+      the-timeout = rw (ne-eqb (kind bytes) Records.report h, e, et) (timeout-from-7 (linkOf acked control) (receive bytes) y1)
 
-    module _ {t : ℕ} (et : t ≡ receive file k) {number : ℕ} (e : number ≡ timeoutNumber t) where
       pub timeout-accepted : {rate : OptionBitrate} {control₁ : DelayController} → number ≡ 0 → rate ≡ acked .estimate → control₁ ≡ Control.handleTimeout control rate t
           → Gives (call (linkOf acked control) callHere) number (linkOf acked control₁)
-      unfolding acceptedWith timedOut
-      timeout-accepted z er f =
-          rw (← the-timeout, timeout-yes (linkOf acked control) (receive file k) (moment-yes (momentIn (receive file k)) (ap timeoutNumber (sym et) ∙ sym e ∙ z)), f, er, et, z)
-          (record { number-is = refl; link-is = refl })
+      unfolding acceptedWith timedOut outcomeUnless
+      timeout-accepted z er f = rw (the-timeout, f, er, et, z) (record { number-is = refl; link-is = refl })
 
       pub timeout-refused : (number ≡ 0 → ⊥) → Gives (call (linkOf acked control) callHere) number (linkOf acked control)
-      timeout-refused z =
-          let m : momentIn (receive file k) ≡ false = moment-no (momentIn (receive file k)) (λ q. z (e ∙ ap timeoutNumber et ∙ q)) in
-          rw (← the-timeout, timeout-7 (linkOf acked control) (receive file k) m, e, et, m)
-          (record { number-is = refl; link-is = refl })
+      timeout-refused z = rw (the-timeout, outcome-refused (linkOf acked control) (timedOut (linkOf acked control) (receive bytes)) number (above number z)) (record { number-is = refl; link-is = refl })
 
 -- ---- a call's turn
 -- the line, from what the controller says
@@ -328,21 +320,21 @@ pub line-of : (k number : ℕ) (c : DelayController) {estimate : Bitrate} {hypot
     → hypothesis ≡ c .«trendline_estimator» .hypothesis → next ≡ c .«next_timeout» → lineWith k number estimate hypothesis next ≡ lineOf k number c
 line-of k number c e f g = rw (e, f, g)
 
-module _ {file old ks out sequences sizes sends remotes receives : List ℕ} {acked : AckedBitrateEstimator} {control : DelayController} {n at k : ℕ}
-    (p : Progress file old (k ∷ ks) out sequences sizes sends remotes receives (linkOf acked control) n at) where
+module _ {file old ks out sequences sizes sends remotes receives : List ℕ} {acked : AckedBitrateEstimator} {control : DelayController} {n at : ℕ}
+    {bytes : List ℕ} {k : ℕ} (b : bytes ≡ recordAt file k) (p : Progress file old (k ∷ ks) out sequences sizes sends remotes receives (linkOf acked control) n at) where
   -- after a report no packet waits
-  pub reported : {new sizes₁ sends₁ remotes₁ receives₁ line : List ℕ} {after : AckedBitrateEstimator} {control₁ : DelayController} {place number : ℕ} → kind file k ≡ Records.report
-      → Gives (call (linkOf acked control) (callOf file k (take (n - 0) sequences) (take (n - 0) sizes) (take (n - 0) sends) (take (n - 0) remotes) (take (n - 0) receives))) number (linkOf after control₁)
+  pub reported : {new sizes₁ sends₁ remotes₁ receives₁ line : List ℕ} {after : AckedBitrateEstimator} {control₁ : DelayController} {place number : ℕ} → kind bytes ≡ Records.report
+      → Gives (call (linkOf acked control) (callOf bytes (take (n - 0) sequences) (take (n - 0) sizes) (take (n - 0) sends) (take (n - 0) remotes) (take (n - 0) receives))) number (linkOf after control₁)
       → KeptLengths sequences sizes₁ sends₁ remotes₁ receives₁ → line ≡ lineOf k number control₁ → new ≡ putLine out at line → place ≡ placeAfter out at line
       → Progress file old ks new sequences sizes₁ sends₁ remotes₁ receives₁ (linkOf after control₁) 0 place
-  reported h g l e a b = called (λ q. absurd (omega arith)) p g (rw e at a) (rw e at b) (rw (eq-eqb (kind file k) Records.report h) (none-kept l))
+  reported h g l e a d = called b p (λ q. absurd (omega arith)) g (rw e at a) (rw e at d) (rw (eq-eqb (kind bytes) Records.report h) (none-kept l))
 
   -- after a timeout those that waited do
-  pub timed : {new line : List ℕ} {control₁ : DelayController} {place number : ℕ} → (kind file k ≡ Records.packet → ⊥) → (kind file k ≡ Records.report → ⊥)
-      → Gives (call (linkOf acked control) (callOf file k (take (n - 0) sequences) (take (n - 0) sizes) (take (n - 0) sends) (take (n - 0) remotes) (take (n - 0) receives))) number (linkOf acked control₁)
+  pub timed : {new line : List ℕ} {control₁ : DelayController} {place number : ℕ} → (kind bytes ≡ Records.packet → ⊥) → (kind bytes ≡ Records.report → ⊥)
+      → Gives (call (linkOf acked control) (callOf bytes (take (n - 0) sequences) (take (n - 0) sizes) (take (n - 0) sends) (take (n - 0) remotes) (take (n - 0) receives))) number (linkOf acked control₁)
       → line ≡ lineOf k number control₁ → new ≡ putLine out at line → place ≡ placeAfter out at line
       → Progress file old ks new sequences sizes sends remotes receives (linkOf acked control₁) n place
-  timed h i g e a b = called h p g (rw e at a) (rw e at b) (rw (ne-eqb (kind file k) Records.report i) (p .kept))
+  timed h i g e a d = called b p h g (rw e at a) (rw e at d) (rw (ne-eqb (kind bytes) Records.report i) (p .kept))
 
 -- a text at the start of the output, and after it the bytes that were there
 pub at-start : {out text new : List ℕ} {end : ℕ} → length text ≤ length out → Wrote out 0 text new end → (end ≡ length text) × (new ≡ text ++ drop (length text) out)

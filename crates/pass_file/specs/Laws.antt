@@ -10,31 +10,17 @@ use lib.ListN.{length, length-append}
 use Rattle.float_order.specs.Range.{In, nat}
 use Rattle.float_order.specs.Interval.{floats}
 use Rattle.bandwidth.specs.Bandwidth.{bps}
-use Rattle.link_state.specs.State.{windowIn}
+use Rattle.bool_laws.specs.Bools.{chosen}
+use Rattle.questions.specs.Questions.{Question, firstNo, ofReport, ofTimeout, windowIn}
 use Rattle.link_state.specs.declared.Link.{Link}
 use Rattle.link.specs.Link as L
-use Rattle.link.specs.Link.{
-  Question,
-  acceptedWith,
-  estimate,
-  firstNo,
-  hypothesis,
-  nextTimeout,
-  opened,
-  opening,
-  outcomeUnless,
-  refusal,
-  reportQuestions,
-  startIn,
-  timeoutQuestions,
-  windowsIn,
-}
+use Rattle.link.specs.Link.{acceptedWith, estimate, hypothesis, nextTimeout, opened, opening, outcomeUnless, refusal, reportQuestions, timeoutQuestions}
 use Rattle.link.specs.Laws.{opening-yes}
 use Rattle.link_runs.specs.Statement.{Call, call, report, timeout, run}
 use Rattle.link_runs.specs.Good.{Good, call-good, run-good, opening-good}
 use Rattle.link_runs.specs.Demand3.{demand-3}
 use Rattle.pass_records.specs.PassRecords as Records
-use Rattle.pass_records.specs.PassRecords.{chain, judge, kind, mostRecords, number, recordCount}
+use Rattle.pass_records.specs.PassRecords.{chain, judge, kind, mostRecords, number, recordAt, recordCount}
 use Rattle.pass_records.specs.Laws.{Rising, linked-file}
 use Rattle.pass_records.specs.declared.Judged.{Judged}
 use Rattle.pass_records.specs.declared.Judged.the-variants.{Linked, BadLength, BadKind, BadNext}
@@ -48,14 +34,10 @@ abbrev AtMost : ℕ → List Question → Type 0
 AtMost n [] = Unit {0}
 AtMost n (q ∷ qs) = (q .number ≤ n) × AtMost n qs
 
-either-most : (t : Bool) {m n most : ℕ} → m ≤ most → n ≤ most → cond t m n ≤ most
-either-most true h i = h
-either-most false h i = i
-
 first-no-most : (most : ℕ) (qs : List Question) → AtMost most qs → firstNo qs ≤ most
 unfolding firstNo
 first-no-most most [] h = omega arith
-first-no-most most (q ∷ qs) h = either-most (q .yes) (first-no-most most qs (h .1)) (h .0)
+first-no-most most (q ∷ qs) h = chosen (λ n. n ≤ most) (q .yes) (first-no-most most qs (h .1)) (h .0)
 
 refusal-number : (n : ℕ) (before after : Link) → refusal (outcomeUnless n before after .reply) ≡ n
 unfolding outcomeUnless acceptedWith
@@ -63,7 +45,7 @@ refusal-number zero before after = refl
 refusal-number (suc n) before after = refl
 
 pub refusal-most : (l : Link) (c : Call) → refusal (call l c .reply) ≤ 9
-unfolding L.report L.timeout reportQuestions timeoutQuestions
+unfolding L.report L.timeout reportQuestions timeoutQuestions ofReport ofTimeout
 refusal-most l (report r) = rw refusal-number (first-no-most 9 (reportQuestions l r) (omega arith))
 refusal-most l (timeout now) = rw refusal-number (first-no-most 9 (timeoutQuestions l now) (omega arith))
 
@@ -113,10 +95,6 @@ lines-short l (c ∷ cs) g h =
     (omega (arith, shown-short l (c .call) (c .number) g (h .0), lines-short (call l (c .call) .link) cs (call-good l (c .call) g) (h .1)))
 
 -- ---- the calls of a file
-either : {A : Type 0} (P : A → Type 0) (t : Bool) {x y : A} → P x → P y → P (cond t x y)
-either P true p q = p
-either P false p q = q
-
 -- calls of n records
 record CallsOf (n : ℕ) (cs : List Numbered) : Type 0 where
   numbers : RecordNumbers cs
@@ -128,13 +106,13 @@ without-call h = record { numbers = h .numbers; few = omega arith }
 with-call : {n : ℕ} {c : Numbered} {cs : List Numbered} → c .number ≤ mostRecords → CallsOf n cs → CallsOf (suc n) (c ∷ cs)
 with-call i h = record { numbers = (i, h .numbers); few = omega arith }
 
-calls-few : (file waiting ks : List ℕ) (low last : ℕ) → last ≤ mostRecords → Rising low last ks → CallsOf (length ks) (calls file waiting ks)
+calls-few : (file : List ℕ) (waiting : List (List ℕ)) (ks : List ℕ) (low last : ℕ) → last ≤ mostRecords → Rising low last ks → CallsOf (length ks) (calls file waiting ks)
 unfolding calls
 calls-few file waiting [] low last m r = record { numbers = tt; few = omega arith }
 calls-few file waiting (k ∷ ks) low last m r =
-    either
+    chosen
     (CallsOf (suc (length ks)))
-    (eqb (kind file k) Records.packet)
+    (eqb (kind (recordAt file k)) Records.packet)
     (without-call (calls-few file _ ks k last m (r .1 .1)))
     (with-call (omega arith) (calls-few file _ ks k last m (r .1 .1)))
 
@@ -142,7 +120,7 @@ calls-few file waiting (k ∷ ks) low last m r =
 -- the link that a listing starts from is that of an accepted opening
 pub first-opened : opening (bps 1000000) 500000000 150000000 ≡ opened first
 first-opened =
-    opening-yes (bps 1000000) 500000000 150000000 (unfold startIn floats in refl) (unfold windowsIn windowIn in refl)
+    opening-yes (bps 1000000) 500000000 150000000 (unfold floats in refl) (unfold windowIn in refl)
 
 pub first-good : Good first
 first-good = opening-good (bps 1000000) 500000000 150000000 first first-opened
@@ -193,7 +171,7 @@ listing-of-run file e =
     }
 
 -- ---- the answer to a file
-linked-if-zero : (j : Judged) (room : ℕ) → cond (eqb (number j) 0) (cond (leb leastOutput room) 0 13) (number j) ≡ 0 → j ≡ Linked
+pub linked-if-zero : (j : Judged) (room : ℕ) → cond (eqb (number j) 0) (cond (leb leastOutput room) 0 13) (number j) ≡ 0 → j ≡ Linked
 linked-if-zero Linked room e = refl
 linked-if-zero BadLength room e = cc
 linked-if-zero BadKind room e = cc

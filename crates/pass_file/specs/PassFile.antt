@@ -14,13 +14,14 @@ use Rattle.bandwidth.specs.declared.Bitrate.{Bitrate}
 use Rattle.bandwidth.specs.declared.BandwidthUsage.{BandwidthUsage}
 use Rattle.bandwidth.specs.declared.BandwidthUsage.the-variants as Usage
 use Rattle.control.specs.declared.DelayController.{DelayController}
+use Rattle.questions.specs.Questions.{report-of}
 use Rattle.link_state.specs.declared.Link.{Link}
 use Rattle.link.specs.Link as L
-use Rattle.link.specs.Link.{Outcome, refusal, report-of}
+use Rattle.link.specs.Link.{Outcome, refusal}
 use Rattle.receive_order.specs.ReceiveOrder.{mostPackets}
 use Rattle.link_runs.specs.Statement.{Call, call, report, timeout}
 use Rattle.pass_records.specs.PassRecords as Records
-use Rattle.pass_records.specs.PassRecords.{kind, flag, size, sequence, send, remote, receive, probeBits, chain, judge, number}
+use Rattle.pass_records.specs.PassRecords.{recordAt, kind, flag, size, sequence, send, remote, receive, probeBits, chain, judge, number}
 use Rattle.listing_line.specs.ListingLine.{line}
 use Rattle.pass_file.specs.declared.Listed.{Listed}
 use Rattle.pass_file.specs.declared.Listed.the-variants as Listed
@@ -30,19 +31,19 @@ abbrev pub first : Link
 first = L.new (bps 1000000) 500000000 150000000
 
 -- ---- the calls of a file
-abbrev pub probe : List ℕ → ℕ → OptionBitrate
-probe file k = cond (eqb (flag file k) 1) (Rate.Some (rate (ofBits binary64 (probeBits file k)))) Rate.None
+abbrev pub probe : List ℕ → OptionBitrate
+probe bytes = cond (eqb (flag bytes) 1) (Rate.Some (rate (ofBits binary64 (probeBits bytes)))) Rate.None
 
--- the call of record k, with these packets if it is a report
-abbrev pub callOf : List ℕ → ℕ → List ℕ → List ℕ → List ℕ → List ℕ → List ℕ → Call
-callOf file k sequences sizes sends remotes receives =
-    cond (eqb (kind file k) Records.report)
-    (report (report-of sequences sizes sends remotes receives (probe file k) (receive file k)))
-    (timeout (receive file k))
+-- the call of a record, with these packets if it is a report
+abbrev pub callOf : List ℕ → List ℕ → List ℕ → List ℕ → List ℕ → List ℕ → Call
+callOf bytes sequences sizes sends remotes receives =
+    cond (eqb (kind bytes) Records.report)
+    (report (report-of sequences sizes sends remotes receives (probe bytes) (receive bytes)))
+    (timeout (receive bytes))
 
 -- the same, with the packets of the records that wait
-abbrev pub callAt : List ℕ → ℕ → List ℕ → Call
-callAt file k waiting = callOf file k (map (sequence file) waiting) (map (size file) waiting) (map (send file) waiting) (map (remote file) waiting) (map (receive file) waiting)
+abbrev pub callAt : List ℕ → List (List ℕ) → Call
+callAt bytes waiting = callOf bytes (map sequence waiting) (map size waiting) (map send waiting) (map remote waiting) (map receive waiting)
 
 -- a call, and the number of its record
 pub record Numbered : Type 0 where
@@ -50,12 +51,13 @@ pub record Numbered : Type 0 where
   pub call : Call
 
 -- the calls along a chain: a packet waits for the next report, refused or not; packets left at the end are dropped
-unfoldable pub calls : List ℕ → List ℕ → List ℕ → List Numbered
+unfoldable pub calls : List ℕ → List (List ℕ) → List ℕ → List Numbered
 calls file waiting [] = []
 calls file waiting (k ∷ ks) =
-    cond (eqb (kind file k) Records.packet)
-    (calls file (waiting ++ (k ∷ [])) ks)
-    (record { number = k; call = callAt file k waiting } ∷ calls file (cond (eqb (kind file k) Records.report) [] waiting) ks)
+    let bytes = recordAt file k in
+    cond (eqb (kind bytes) Records.packet)
+    (calls file (waiting ++ (bytes ∷ [])) ks)
+    (record { number = k; call = callAt bytes waiting } ∷ calls file (cond (eqb (kind bytes) Records.report) [] waiting) ks)
 
 -- ---- the listing
 abbrev pub letter : BandwidthUsage → ℕ
@@ -107,6 +109,11 @@ answer Listed.ShortOutput = turnedDown 13
 abbrev pub answerNumber : Answer → ℕ
 answerNumber (listed n) = 0
 answerNumber (turnedDown n) = n
+
+-- how many bytes its listing has; 0 where there is none
+abbrev pub answerBytes : Answer → ℕ
+answerBytes (listed n) = n
+answerBytes (turnedDown n) = 0
 
 abbrev pub answerUnless : ℕ → List ℕ → Answer
 answerUnless zero text = listed (length text)

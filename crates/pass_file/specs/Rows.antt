@@ -11,15 +11,18 @@ use Rattle.time.specs.Time.{saturatingAdd}
 use Rattle.bandwidth.specs.Bandwidth as Bandwidth
 use Rattle.bandwidth.specs.Bandwidth.{bps, rate}
 use Rattle.bandwidth.specs.declared.OptionBitrate.the-variants as Rate
-use Rattle.receive_order.specs.ReceiveOrder.{receiveOrder, entries}
+use Rattle.receive_order.specs.ReceiveOrder.{isSorted}
 use Rattle.rate_control.specs.RateControl as RateControl
 use Rattle.control.specs.Control as Control
+use Rattle.questions.specs.Questions as Q
+use Rattle.questions.specs.Questions.{Report, every, instantsIn, listsIn, momentIn, ofReport, ofTimeout, probeIn, report-of}
 use Rattle.link_state.specs.State.{inRange}
 use Rattle.link_state.specs.declared.Link.{Link}
-use Rattle.link.specs.Link.{Outcome, Report, acceptedWith, every, instantsIn, listsIn, momentIn, probeIn, report-of, sumsIn, timedOut, updated, updatedBy}
-use Rattle.link.specs.Laws.{report-in-range, report-yes, timeout-in-range, timeout-yes}
+use Rattle.link.specs.Link.{Outcome, acceptedWith, firstNoInOrder, outcomeUnless, sumsIn, timedOut, updated}
+use Rattle.link.specs.Laws.{report-sorted, timeout-from-7}
 use Rattle.link_runs.specs.Statement.{call, report, timeout}
 use Rattle.link_runs.specs.InRange.{reached-in-range}
+use Rattle.pass_records.specs.PassRecords.{recordAt}
 use Rattle.pass_records.specs.Rows.{example, example-linked, example-chain}
 use Rattle.listing_line.specs.ListingLine.{line}
 use Rattle.listing_line.specs.Rows.{bytes, record-1, record-3}
@@ -37,7 +40,7 @@ abbrev three : Numbered
 three = record { number = 3; call = report probed }
 
 example-calls : fileCalls example ≡ one ∷ three ∷ []
-unfolding calls le
+unfolding calls recordAt le
 example-calls = rw example-chain
 
 -- the link after record 1
@@ -46,8 +49,8 @@ second = timedOut first 1000000000
 
 timeout-taken : call first (timeout 1000000000) ≡ acceptedWith second
 timeout-taken =
-    sym (timeout-in-range first 1000000000 (reached-in-range (bps 1000000) 500000000 150000000 first first-opened []))
-    ∙ timeout-yes first 1000000000 (unfold momentIn in refl)
+    timeout-from-7 first 1000000000 (reached-in-range (bps 1000000) 500000000 150000000 first first-opened [])
+    ∙ (unfold outcomeUnless Q.firstNo ofTimeout momentIn in refl)
 
 second-in-range : inRange second ≡ true
 unfolding acceptedWith
@@ -58,22 +61,17 @@ second-in-range =
     (reached-in-range (bps 1000000) 500000000 150000000 first first-opened (timeout 1000000000 ∷ []))
 
 report-taken : call second (report probed) ≡ acceptedWith (updated second probed)
+unfolding outcomeUnless
 report-taken =
-    sym (report-in-range second probed second-in-range)
-    ∙ report-yes second probed
-    (unfold listsIn in refl)
-    (unfold instantsIn every in refl)
-    (unfold every in refl)
-    (unfold momentIn in refl)
-    (unfold probeIn floats in refl)
-    (unfold sumsIn receiveOrder entries in refl)
+    let none : firstNoInOrder (second .acked) probed ≡ 0 = unfold firstNoInOrder Q.firstNo ofReport listsIn instantsIn every momentIn probeIn sumsIn floats in refl in
+    sym (report-sorted second probed second-in-range (unfold isSorted in refl)) ∙ rw none
 
 first-line : shown 1 (acceptedWith second) ≡ line 1 0 (code "N") 0x412e848000000000 1025000000
 unfolding shown acceptedWith timedOut Control.handleTimeout Control.trendlineHypothesisValid Control.withRate Control.wait Control.getSmoothedRtt Control.new saturatingAdd floats toBits
 first-line = refl
 
 second-line : shown 3 (acceptedWith (updated second probed)) ≡ line 3 0 (code "N") 0x413e848000000000 1035000000
-unfolding shown acceptedWith timedOut updatedBy receiveOrder entries Control.handleTimeout Control.trendlineHypothesisValid Control.withRate Control.new Control.update Control.updateEstimate Control.withPackets Control.addAll RateControl.setProbeResult RateControl.updateEstimate RateControl.withEstimate Bandwidth.clamp Float.helpers saturatingAdd toBits
+unfolding shown acceptedWith timedOut updated Control.handleTimeout Control.trendlineHypothesisValid Control.withRate Control.new Control.update Control.updateEstimate Control.withPackets Control.fold RateControl.setProbeResult RateControl.updateEstimate RateControl.withEstimate Bandwidth.clamp Float.helpers saturatingAdd toBits
 second-line = refl
 
 two-lines : (l : Link) (c d : Numbered) {o p : Outcome} → call l (c .call) ≡ o → call (o .link) (d .call) ≡ p

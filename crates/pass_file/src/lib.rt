@@ -6,14 +6,14 @@ ghost use Rattle.pass_records.specs.PassRecords as Records;
 ghost use Rattle.pass_records.specs.declared.Judged.the-variants.{Linked};
 ghost use Rattle.listing_line.specs.ListingLine.{putLine, placeAfter, Wrote};
 ghost use Rattle.pass_file.specs.PassFile as PassFile;
-ghost use Rattle.pass_file.specs.Judged.{JudgesReport, reportOfFirst, timeoutNumber};
+ghost use Rattle.questions.specs.Questions.{firstNo, ofTimeout};
+ghost use Rattle.pass_file.specs.Judged.{JudgesReport, reportOfFirst};
 use acked_bitrate_estimator::AckedBitrateEstimator;
 use bandwidth::BandwidthUsage;
 use bandwidth::Bitrate;
 use bandwidth::OptionBitrate;
 use control::DelayController;
 use link_state::Link;
-use pass_records::Following;
 use pass_records::Judged;
 
 // The least output that a file's listing is written to.
@@ -44,6 +44,19 @@ impl Listed {
             Listed::ShortOutput => 13,
         }
     }
+
+    // How many bytes the listing has; 0 where there is none.
+    pub fn bytes(self) -> usize
+        ensures { λ r. ⌜ r ≡ PassFile.answerBytes (PassFile.answer self) ⌝ }
+    {
+        match self {
+            Listed::Listing(bytes) => bytes,
+            Listed::BadLength => 0,
+            Listed::BadKind => 0,
+            Listed::BadNext => 0,
+            Listed::ShortOutput => 0,
+        }
+    }
 }
 
 // ---- a call
@@ -55,11 +68,11 @@ fn open() -> Link
     Link { acked, control }
 }
 
-fn probe(file: &[u8], k: usize) -> OptionBitrate
-    ensures { λ r. ⌜ r ≡ PassFile.probe (now (file .entry)) k ⌝ }
+fn probe(bytes: &[u8]) -> OptionBitrate
+    ensures { λ r. ⌜ r ≡ PassFile.probe (now (bytes .entry)) ⌝ }
 {
-    if pass_records::flag(file, k) == 1 {
-        let bits = pass_records::probe_bits(file, k);
+    if pass_records::flag(bytes) == 1 {
+        let bits = pass_records::probe_bits(bytes);
         return OptionBitrate::Some(Bitrate(float_bits::from_bits(bits)));
     }
     OptionBitrate::None
@@ -89,7 +102,9 @@ fn judge_report(
         (take n (now (sends .exit))) (take n (now (remotes .exit))) (take n (now (receives .exit))) ⌝ }
     ensures { λ _. ⌜ PassFile.KeptLengths (now (sequences .entry)) (now (sizes .exit)) (now (sends .exit)) (now (remotes .exit)) (now (receives .exit)) ⌝ }
 {
-    let form = link::report_form(
+    receive_order::put_in_order(n, sequences, sizes, sends, remotes, receives);
+    let judged = link::judge_report(
+        acked,
         &sequences[0..n],
         &sizes[0..n],
         &sends[0..n],
@@ -98,27 +113,20 @@ fn judge_report(
         probe,
         moment,
     );
-    let number = form.number();
-    if number != 0 {
-        return JudgedReport { number, acked };
+    let refusal = judged.refusal;
+    let acked = judged.acked;
+    JudgedReport {
+        number: refusal.number(),
+        acked,
     }
-    receive_order::put_in_order(n, sequences, sizes, sends, remotes, receives);
-    let done = link::acknowledge(acked, &remotes[0..n], &sizes[0..n]);
-    if done.sums_in {
-        let acked = done.acked;
-        return JudgedReport { number: 0, acked };
-    }
-    JudgedReport { number: 9, acked }
 }
 
 // Question 7 of a timeout: the number that it gets.
 fn judge_timeout(now: u64) -> u64
-    ensures { λ r. ⌜ r ≡ timeoutNumber now ⌝ }
+    ensures { λ r. ⌜ r ≡ firstNo (ofTimeout now) ⌝ }
 {
-    if link::moment_in(now) {
-        return 0;
-    }
-    7
+    let refusal = questions::timeout(now);
+    refusal.number()
 }
 
 // ---- its line
@@ -178,17 +186,17 @@ fn wait(
 ) -> usize
     requires { ⌜ n ≤ PassFile.mostWaiting ⌝ }
     ensures { λ r. ⌜ r ≡ PassFile.oneMore n ⌝ }
-    ensures { λ _. ⌜ now (sequences .exit) ≡ set (now (sequences .entry)) n (Records.sequence (now (bytes .entry)) 1) ⌝ }
-    ensures { λ _. ⌜ now (sizes .exit) ≡ set (now (sizes .entry)) n (Records.size (now (bytes .entry)) 1) ⌝ }
-    ensures { λ _. ⌜ now (sends .exit) ≡ set (now (sends .entry)) n (Records.send (now (bytes .entry)) 1) ⌝ }
-    ensures { λ _. ⌜ now (remotes .exit) ≡ set (now (remotes .entry)) n (Records.remote (now (bytes .entry)) 1) ⌝ }
-    ensures { λ _. ⌜ now (receives .exit) ≡ set (now (receives .entry)) n (Records.receive (now (bytes .entry)) 1) ⌝ }
+    ensures { λ _. ⌜ now (sequences .exit) ≡ set (now (sequences .entry)) n (Records.sequence (now (bytes .entry))) ⌝ }
+    ensures { λ _. ⌜ now (sizes .exit) ≡ set (now (sizes .entry)) n (Records.size (now (bytes .entry))) ⌝ }
+    ensures { λ _. ⌜ now (sends .exit) ≡ set (now (sends .entry)) n (Records.send (now (bytes .entry))) ⌝ }
+    ensures { λ _. ⌜ now (remotes .exit) ≡ set (now (remotes .entry)) n (Records.remote (now (bytes .entry))) ⌝ }
+    ensures { λ _. ⌜ now (receives .exit) ≡ set (now (receives .entry)) n (Records.receive (now (bytes .entry))) ⌝ }
 {
-    put(sequences, n, pass_records::sequence(bytes, 1));
-    put(sizes, n, pass_records::size(bytes, 1) as u64);
-    put(sends, n, pass_records::send(bytes, 1));
-    put(remotes, n, pass_records::remote(bytes, 1));
-    put(receives, n, pass_records::receive(bytes, 1));
+    put(sequences, n, pass_records::sequence(bytes));
+    put(sizes, n, pass_records::size(bytes) as u64);
+    put(sends, n, pass_records::send(bytes));
+    put(remotes, n, pass_records::remote(bytes));
+    put(receives, n, pass_records::receive(bytes));
     if n < MOST_WAITING {
         return n + 1;
     }
@@ -196,11 +204,10 @@ fn wait(
 }
 
 // ---- the listing
-// The lines along the chain of a file of `last` records. A link that a run reaches is in range, so question 1 is not put; its two parts are kept
+// The lines along the chain of a linked file. A link that a run reaches is in range, so question 1 is not put; its two parts are kept
 // apart, so that a call copies only what it changes.
 fn list_chain(
     file: &[u8],
-    last: usize,
     out: &mut [u8],
     sequences: &mut [u64],
     sizes: &mut [u64],
@@ -209,7 +216,7 @@ fn list_chain(
     receives: &mut [u64],
     link: Link,
 ) -> usize
-    requires { ⌜ (Records.judge (now file) ≡ Linked) × («last» ≡ Records.recordCount (now file)) × (PassFile.leastOutput ≤ length (now out)) × (link ≡ PassFile.first) ⌝ }
+    requires { ⌜ (Records.judge (now file) ≡ Linked) × (PassFile.leastOutput ≤ length (now out)) × (link ≡ PassFile.first) ⌝ }
     requires { ⌜ PassFile.KeptLengths (now sequences) (now sizes) (now sends) (now remotes) (now receives) ⌝ }
     ensures { λ r. ⌜ Wrote (now (out .entry)) 0 (PassFile.listing (now (file .entry))) (now (out .exit)) r ⌝ }
 {
@@ -219,15 +226,13 @@ fn list_chain(
     let mut at = 0;
     let mut k = 1;
     loop {
-        let start = (k - 1) * pass_records::RECORD_BYTES;
-        let end = start + pass_records::RECORD_BYTES;
-        let bytes = &file[start..end];
-        let kind = pass_records::kind(bytes, 1);
-        let now = pass_records::receive(bytes, 1);
+        let bytes = pass_records::record_at(file, k);
+        let kind = pass_records::kind(bytes);
+        let now = pass_records::receive(bytes);
         if kind == pass_records::PACKET {
             n = wait(bytes, n, sequences, sizes, sends, remotes, receives);
         } else if kind == pass_records::REPORT {
-            let probe = probe(bytes, 1);
+            let probe = probe(bytes);
             let judged = judge_report(
                 acked,
                 n,
@@ -275,9 +280,10 @@ fn list_chain(
                 control.poll_timeout(),
             );
         }
-        let Following::Next(next) = pass_records::successor(bytes, last, k) else {
+        let next = pass_records::next(bytes) as usize;
+        if next == 0 {
             return at;
-        };
+        }
         k = next;
     }
 }
@@ -292,10 +298,8 @@ fn list_linked(file: &[u8], out: &mut [u8]) -> usize
     let mut sends = [0u64; 1025];
     let mut remotes = [0u64; 1025];
     let mut receives = [0u64; 1025];
-    let last = pass_records::record_count(file);
     list_chain(
         file,
-        last,
         out,
         &mut sequences,
         &mut sizes,

@@ -7,7 +7,8 @@ use mathlib.Core.Logic.{⊎-elim}
 use native.Mathlib.Omega.{arith}
 use lib.Dec.{eqb, ltb, leb}
 use lib.ListN.{length}
-use borrow.Author.Tests.{ltb-true, leb-true, eqb-true, eqb-false}
+use borrow.Author.Tests.{ne-eqb, ltb-true, leb-true, eqb-true, eqb-false}
+use Rattle.bool_laws.specs.Bools.{both, cases}
 use Rattle.pass_records.specs.declared.Following.{Following}
 use Rattle.pass_records.specs.declared.Following.the-variants.{Next, End, BadKind, BadNext}
 use Rattle.pass_records.specs.declared.Judged.the-variants as J
@@ -22,7 +23,8 @@ use Rattle.pass_records.specs.PassRecords.{
   flag,
   next,
   wellFormed,
-  follows,
+  recordAt,
+  successor,
   onward,
   steps,
   chainFrom,
@@ -34,23 +36,23 @@ use Rattle.pass_records.specs.PassRecords.{
 
 -- ---- a record
 -- what question 11 asks of it
-pub record Formed (file : List ℕ) (k : ℕ) : Type 0 where
-  pub low : packet ≤ kind file k
-  pub high : kind file k ≤ timeout
-  pub flagged : kind file k ≡ report → flag file k ≤ 1
+pub record Formed (bytes : List ℕ) : Type 0 where
+  pub low : packet ≤ kind bytes
+  pub high : kind bytes ≤ timeout
+  pub flagged : kind bytes ≡ report → flag bytes ≤ 1
 
 -- what question 12 asks of it where it is followed by record n
-pub record Followed (file : List ℕ) (last k n : ℕ) : Type 0 where
-  pub formed : Formed file k
-  pub named : n ≡ next file k
+pub record Followed (bytes : List ℕ) (last k n : ℕ) : Type 0 where
+  pub formed : Formed bytes
+  pub named : n ≡ next bytes
   pub above : k < n
   pub within : n ≤ last
 
 abbrev pub Told : List ℕ → ℕ → ℕ → Following → Type 0
-Told file last k (Next n) = Followed file last k n
-Told file last k End = Formed file k × (next file k ≡ 0)
-Told file last k BadKind = wellFormed file k ≡ false
-Told file last k BadNext = Formed file k
+Told bytes last k (Next n) = Followed bytes last k n
+Told bytes last k End = Formed bytes × (next bytes ≡ 0)
+Told bytes last k BadKind = wellFormed bytes ≡ false
+Told bytes last k BadNext = Formed bytes
 
 -- ---- a chain
 -- numbers that rise, all above `low` and none past `last`
@@ -58,11 +60,16 @@ abbrev pub Rising : ℕ → ℕ → List ℕ → Type 0
 Rising low last [] = Unit {0}
 Rising low last (k ∷ ks) = (low < k) × ((k ≤ last) × Rising k last ks)
 
--- a record of a linked chain, which a walk along it has reached
+-- record k is on a chain that is linked
 pub record OnChain (file : List ℕ) (last k : ℕ) : Type 0 where
-  pub low : 0 < k
-  pub high : k ≤ last
+  pub within : k ≤ last
   pub linked : judgeAlong file last (chainFrom file last k) ≡ J.Linked
+
+-- of such a record: the chain from it on, by the number that it names
+pub record Onward (file : List ℕ) (last k n : ℕ) : Type 0 where
+  pub chain-is : chainFrom file last k ≡ k ∷ cond (eqb n 0) [] (chainFrom file last n)
+  pub above : (n ≡ 0 → ⊥) → k < n
+  pub on-chain : (n ≡ 0 → ⊥) → OnChain file last n
 
 pub record LinkedFile (file : List ℕ) : Type 0 where
   pub most : recordCount file ≤ mostRecords
@@ -70,22 +77,13 @@ pub record LinkedFile (file : List ℕ) : Type 0 where
   pub first : OnChain file (recordCount file) 1
   pub rising : Rising 0 (recordCount file) (chain file)
   pub few : length (chain file) ≤ recordCount file
-  pub formed : (k : ℕ) → List·Memᴰ k (chain file) → Formed file k
-
--- ---- tests
-either : {A : Type 0} (P : A → Type 0) (t : Bool) {x y : A} → (t ≡ true → P x) → (t ≡ false → P y) → P (cond t x y)
-either P true f g = f refl
-either P false f g = g refl
-
-both : (a b : Bool) → a && b ≡ true → (a ≡ true) × (b ≡ true)
-both true b e = (refl, e)
-both false b e = absurd (let z : _≡_ {A = ℕ} 0 1 = cc in omega arith)
+  pub formed : (k : ℕ) → List·Memᴰ k (chain file) → Formed (recordAt file k)
 
 -- ---- questions 10, 11 and 12
 pub counted : (file : List ℕ) → (recordCount file ≤ mostRecords) × (0 < recordCount file → length file ≡ recordCount file * recordBytes)
 unfolding recordCount
 counted file =
-    either
+    cases
     (λ n. (n ≤ mostRecords) × (0 < n → length file ≡ n * recordBytes))
     (eqb (length file % recordBytes) 0 && leb (length file / recordBytes) mostRecords)
     (λ e.
@@ -94,53 +92,54 @@ counted file =
     (leb-true _ _ (q .1), λ h. omega arith))
     (λ e. (omega arith, λ h. absurd (omega arith)))
 
-pub well-formed : (file : List ℕ) (k : ℕ) → wellFormed file k ≡ true → Formed file k
-unfolding wellFormed
-well-formed file k =
-    either
-    (λ t. t ≡ true → Formed file k)
-    (eqb (kind file k) report)
-    (λ e h.
-    let r : kind file k ≡ report = eqb-true _ _ e in
-    record { low = omega arith; high = omega arith; flagged = λ f. leb-true _ _ h })
-    (λ e h.
-    let q = both (leb packet (kind file k)) (leb (kind file k) timeout) h in
-    record { low = leb-true _ _ (q .0); high = leb-true _ _ (q .1); flagged = λ f. absurd (eqb-false _ _ e f) })
+module _ (bytes : List ℕ) where
+  pub well-formed : wellFormed bytes ≡ true → Formed bytes
+  unfolding wellFormed
+  well-formed =
+      cases
+      (λ t. t ≡ true → Formed bytes)
+      (eqb (kind bytes) report)
+      (λ e h.
+      let r : kind bytes ≡ report = eqb-true _ _ e in
+      record { low = omega arith; high = omega arith; flagged = λ f. leb-true _ _ h })
+      (λ e h.
+      let q = both (leb packet (kind bytes)) (leb (kind bytes) timeout) h in
+      record { low = leb-true _ _ (q .0); high = leb-true _ _ (q .1); flagged = λ f. absurd (eqb-false _ _ e f) })
 
-pub follows-told : (file : List ℕ) (last k : ℕ) → Told file last k (follows file last k)
-unfolding follows
-follows-told file last k =
-    either
-    (Told file last k)
-    (wellFormed file k)
-    (λ a.
-    let formed = well-formed file k a in
-    either
-    (Told file last k)
-    (eqb (next file k) 0)
-    (λ b. (formed, eqb-true _ _ b))
-    (λ b.
-    either
-    (Told file last k)
-    (ltb k (next file k) && leb (next file k) last)
-    (λ d.
-    let q = both (ltb k (next file k)) (leb (next file k) last) d in
-    record { formed = formed; named = refl; above = ltb-true _ _ (q .0); within = leb-true _ _ (q .1) })
-    (λ d. formed)))
-    (λ a. a)
+  pub successor-told : (last k : ℕ) → Told bytes last k (successor bytes last k)
+  unfolding successor
+  successor-told last k =
+      cases
+      (Told bytes last k)
+      (wellFormed bytes)
+      (λ a.
+      let formed = well-formed a in
+      cases
+      (Told bytes last k)
+      (eqb (next bytes) 0)
+      (λ b. (formed, eqb-true _ _ b))
+      (λ b.
+      cases
+      (Told bytes last k)
+      (ltb k (next bytes) && leb (next bytes) last)
+      (λ d.
+      let q = both (ltb k (next bytes)) (leb (next bytes) last) d in
+      record { formed = formed; named = refl; above = ltb-true _ _ (q .0); within = leb-true _ _ (q .1) })
+      (λ d. formed)))
+      (λ a. a)
 
-pub followed : (file : List ℕ) (last k n : ℕ) → follows file last k ≡ Next n → Followed file last k n
-followed file last k n e = subst (Told file last k) e (follows-told file last k)
+  pub followed : (last k n : ℕ) → successor bytes last k ≡ Next n → Followed bytes last k n
+  followed last k n e = subst (Told bytes last k) e (successor-told last k)
 
 -- ---- the chain, record by record
 module _ (file : List ℕ) (last : ℕ) where
   -- what holds of no records, and of the records from each n on that may follow, holds of those that do
   onward-by :
       (R : List ℕ → List ℕ → Type 0) (k : ℕ) (f g : ℕ → List ℕ) → R [] [] → ((n : ℕ) → k < n → n ≤ last → R (f n) (g n)) →
-      R (onward (follows file last k) f) (onward (follows file last k) g)
-  onward-by R k f g z h = go (follows file last k) (follows-told file last k)
+      R (onward (successor (recordAt file k) last k) f) (onward (successor (recordAt file k) last k) g)
+  onward-by R k f g z h = go (successor (recordAt file k) last k) (successor-told (recordAt file k) last k)
     where
-      go : (t : Following) → Told file last k t → R (onward t f) (onward t g)
+      go : (t : Following) → Told (recordAt file k) last k t → R (onward t f) (onward t g)
       go (Next n) p = h n (p .above) (p .within)
       go End p = z
       go BadKind p = z
@@ -156,7 +155,7 @@ module _ (file : List ℕ) (last : ℕ) where
       (λ (ks : List ℕ). k ∷ ks)
       (onward-by (λ x y. x ≡ y) k _ _ refl (λ n a b. steps-enough n f g b (omega arith) (omega arith)))
 
-  pub chain-step : (k : ℕ) → k ≤ last → chainFrom file last k ≡ k ∷ onward (follows file last k) (chainFrom file last)
+  pub chain-step : (k : ℕ) → k ≤ last → chainFrom file last k ≡ k ∷ onward (successor (recordAt file k) last k) (chainFrom file last)
   unfolding chainFrom steps
   chain-step k h =
       let e : suc last - k ≡ suc (last - k) = omega arith in
@@ -178,47 +177,56 @@ pub rising-length : (ks : List ℕ) (low last : ℕ) → low ≤ last → Rising
 rising-length [] low last h r = omega arith
 rising-length (k ∷ ks) low last h r = omega (arith, rising-length ks k last (r .1 .0) (r .1 .1))
 
-pub rising-in : (ks : List ℕ) (low last k : ℕ) → Rising low last ks → List·Memᴰ k ks → (low < k) × (k ≤ last)
-rising-in [] low last k r m = absurd (List·Memᴰ·not-nil m)
-rising-in (j ∷ ks) low last k r m =
-    ⊎-elim (λ e. omega arith) (λ n. let i = rising-in ks j last k (r .1 .1) n in omega arith) (List·Memᴰ·cases-cons m)
-
 -- ---- the judgement, record by record
 module _ (file : List ℕ) (last : ℕ) where
   pub judge-step :
-      (k : ℕ) (t : Following) → k ≤ last → follows file last k ≡ t →
+      (k : ℕ) (t : Following) → k ≤ last → successor (recordAt file k) last k ≡ t →
       judgeAlong file last (chainFrom file last k) ≡ judgeOne t (judgeAlong file last (onward t (chainFrom file last)))
   unfolding judgeAlong
   judge-step k t h e = rw (chain-step file last k h, e)
 
-  linked-cons : (k : ℕ) (ks : List ℕ) → judgeAlong file last (k ∷ ks) ≡ J.Linked → Formed file k × (judgeAlong file last ks ≡ J.Linked)
+  linked-cons : (k : ℕ) (ks : List ℕ) → judgeAlong file last (k ∷ ks) ≡ J.Linked → Formed (recordAt file k) × (judgeAlong file last ks ≡ J.Linked)
   unfolding judgeAlong
-  linked-cons k ks = go (follows file last k) (follows-told file last k)
+  linked-cons k ks = go (successor (recordAt file k) last k) (successor-told (recordAt file k) last k)
     where
-      go : (t : Following) → Told file last k t → judgeOne t (judgeAlong file last ks) ≡ J.Linked → Formed file k × (judgeAlong file last ks ≡ J.Linked)
+      go : (t : Following) → Told (recordAt file k) last k t → judgeOne t (judgeAlong file last ks) ≡ J.Linked → Formed (recordAt file k) × (judgeAlong file last ks ≡ J.Linked)
       go (Next n) p e = (p .formed, e)
       go End p e = (p .0, e)
       go BadKind p e = absurd (let z : _≡_ {A = ℕ} 0 1 = cc in omega arith)
       go BadNext p e = absurd (let z : _≡_ {A = ℕ} 0 1 = cc in omega arith)
 
-  linked-formed : (ks : List ℕ) → judgeAlong file last ks ≡ J.Linked → (k : ℕ) → List·Memᴰ k ks → Formed file k
+  linked-formed : (ks : List ℕ) → judgeAlong file last ks ≡ J.Linked → (k : ℕ) → List·Memᴰ k ks → Formed (recordAt file k)
   linked-formed [] e k m = absurd (List·Memᴰ·not-nil m)
   linked-formed (j ∷ ks) e k m =
       let p = linked-cons j ks e in
       ⊎-elim (λ f. rw f (p .0)) (linked-formed ks (p .1) k) (List·Memᴰ·cases-cons m)
 
-  pub on-chain-formed : (k : ℕ) → OnChain file last k → Formed file k
-  on-chain-formed k o = linked-cons k _ (rw (chain-step file last k (o .high)) at (o .linked)) .0
-
-  pub on-chain-next : (k n : ℕ) → OnChain file last k → follows file last k ≡ Next n → OnChain file last n
-  on-chain-next k n o e =
-      let p = followed file last k n e in
-      record { low = omega arith; high = p .within; linked = sym (judge-step k (Next n) (o .high) e) ∙ o .linked }
+  pub onward-linked : (k : ℕ) → OnChain file last k → Onward file last k (next (recordAt file k))
+  onward-linked k o =
+      go
+      (successor (recordAt file k) last k)
+      (successor-told (recordAt file k) last k)
+      (chain-step file last k (o .within))
+      (sym (judge-step k _ (o .within) refl) ∙ o .linked)
+    where
+      go :
+          (t : Following) → Told (recordAt file k) last k t → chainFrom file last k ≡ k ∷ onward t (chainFrom file last) →
+          judgeOne t (judgeAlong file last (onward t (chainFrom file last))) ≡ J.Linked → Onward file last k (next (recordAt file k))
+      go (Next n) p e l =
+          rw (← p .named)
+          (record {
+            chain-is = rw (ne-eqb n 0 (omega (arith, p .above))) e;
+            above = λ _. p .above;
+            on-chain = λ _. record { within = p .within; linked = l };
+          })
+      go End p e l = rw (p .1) (record { chain-is = e; above = λ z. absurd (z refl); on-chain = λ z. absurd (z refl) })
+      go BadKind p e l = absurd (let z : _≡_ {A = ℕ} 0 1 = cc in omega arith)
+      go BadNext p e l = absurd (let z : _≡_ {A = ℕ} 0 1 = cc in omega arith)
 
 pub linked-file : (file : List ℕ) → judge file ≡ J.Linked → LinkedFile file
 unfolding judge
 linked-file file =
-    either
+    cases
     (λ j. j ≡ J.Linked → LinkedFile file)
     (eqb (recordCount file) 0)
     (λ e h. absurd (let z : _≡_ {A = ℕ} 0 1 = cc in omega arith))
@@ -229,7 +237,7 @@ linked-file file =
     record {
       most = counted file .0;
       bytes = counted file .1 some;
-      first = record { low = omega arith; high = some; linked = h };
+      first = record { within = some; linked = h };
       rising = rising;
       few = omega (arith, rising-length (chain file) 0 (recordCount file) (omega arith) rising);
       formed = linked-formed file (recordCount file) (chain file) h;

@@ -1,9 +1,9 @@
--- The records of a pass file, 48 bytes each and numbered from 1, and the chain that links them. What lies past the file's end counts as 0.
+-- The records of a pass file, 48 bytes each and numbered from 1, and the chain that links them. What lies past a record's end counts as 0.
 use Prim.Native.Nat.{ℕ, zero, suc, _+_, _*_, _-_, _/_, _%_}
 use mathlib.Core.Bool.{Bool, _&&_, cond}
 use mathlib.Core.List.{List, [], _∷_}
 use lib.Dec.{eqb, ltb, leb}
-use lib.ListN.{length, take, drop}
+use lib.ListN.{length, getD, take, drop}
 use Rattle.le_bytes.specs.LeBytes.{le}
 use Rattle.pass_records.specs.declared.Following.{Following}
 use Rattle.pass_records.specs.declared.Following.the-variants.{Next, End, BadKind, BadNext}
@@ -32,59 +32,51 @@ unfoldable pub recordCount : List ℕ → ℕ
 recordCount file =
     cond (eqb (length file % recordBytes) 0 && leb (length file / recordBytes) mostRecords) (length file / recordBytes) 0
 
--- ---- the fields of record k
--- where it starts; for 0, where record 1 does
-abbrev pub base : ℕ → ℕ
-base k = (k - 1) * recordBytes
+-- the bytes of record k, or none where the file has no record k
+unfoldable pub recordAt : List ℕ → ℕ → List ℕ
+recordAt file k = cond (ltb 0 k && leb k (length file / recordBytes)) (take recordBytes (drop ((k - 1) * recordBytes) file)) []
 
-abbrev pub next : List ℕ → ℕ → ℕ
-next file k = le 4 file (base k)
+-- ---- the fields of a record, from its bytes
+-- the number of the record that follows it, or 0
+abbrev pub next : List ℕ → ℕ
+next bytes = le 4 bytes 0
 
-abbrev pub kind : List ℕ → ℕ → ℕ
-kind file k = le 1 file (base k + 4)
+abbrev pub kind : List ℕ → ℕ
+kind bytes = getD bytes 4 0
 
-abbrev pub flag : List ℕ → ℕ → ℕ
-flag file k = le 1 file (base k + 5)
+abbrev pub flag : List ℕ → ℕ
+flag bytes = getD bytes 5 0
 
-abbrev pub size : List ℕ → ℕ → ℕ
-size file k = le 2 file (base k + 6)
+abbrev pub size : List ℕ → ℕ
+size bytes = le 2 bytes 6
 
-abbrev pub sequence : List ℕ → ℕ → ℕ
-sequence file k = le 8 file (base k + 8)
+abbrev pub sequence : List ℕ → ℕ
+sequence bytes = le 8 bytes 8
 
-abbrev pub send : List ℕ → ℕ → ℕ
-send file k = le 8 file (base k + 16)
+abbrev pub send : List ℕ → ℕ
+send bytes = le 8 bytes 16
 
-abbrev pub remote : List ℕ → ℕ → ℕ
-remote file k = le 8 file (base k + 24)
+abbrev pub remote : List ℕ → ℕ
+remote bytes = le 8 bytes 24
 
 -- a packet's local receive instant; a report's or a timeout's now
-abbrev pub receive : List ℕ → ℕ → ℕ
-receive file k = le 8 file (base k + 32)
+abbrev pub receive : List ℕ → ℕ
+receive bytes = le 8 bytes 32
 
-abbrev pub probeBits : List ℕ → ℕ → ℕ
-probeBits file k = le 8 file (base k + 40)
-
--- the bytes of record k, fewer at the file's end; its fields are those of record 1 of them
-abbrev pub recordAt : List ℕ → ℕ → List ℕ
-recordAt file k = take recordBytes (drop (base k) file)
+abbrev pub probeBits : List ℕ → ℕ
+probeBits bytes = le 8 bytes 40
 
 -- ---- the chain
 -- question 11: the kind is 1 to 3, and a report's flag 0 or 1
-unfoldable pub wellFormed : List ℕ → ℕ → Bool
-wellFormed file k = cond (eqb (kind file k) report) (leb (flag file k) 1) (leb packet (kind file k) && leb (kind file k) timeout)
+unfoldable pub wellFormed : List ℕ → Bool
+wellFormed bytes = cond (eqb (kind bytes) report) (leb (flag bytes) 1) (leb packet (kind bytes) && leb (kind bytes) timeout)
 
--- what follows record k of `last` records, by whether it is well formed and the number that it names: question 11, then 12, the number is 0, or above k and not past the last
-abbrev pub followsBy : Bool → ℕ → ℕ → ℕ → Following
-followsBy formed n last k = cond formed (cond (eqb n 0) End (cond (ltb k n && leb n last) (Next n) BadNext)) BadKind
-
--- what follows record k of a file
-unfoldable pub follows : List ℕ → ℕ → ℕ → Following
-follows file last k = followsBy (wellFormed file k) (next file k) last k
-
--- the same by the bytes of record k alone
+-- what follows a record, which is record k of `last`: question 11, then 12, the number that it names is 0, or above k and not past the last
 unfoldable pub successor : List ℕ → ℕ → ℕ → Following
-successor bytes last k = followsBy (wellFormed bytes 1) (next bytes 1) last k
+successor bytes last k =
+    cond (wellFormed bytes)
+    (cond (eqb (next bytes) 0) End (cond (ltb k (next bytes) && leb (next bytes) last) (Next (next bytes)) BadNext))
+    BadKind
 
 abbrev pub onward : Following → (ℕ → List ℕ) → List ℕ
 onward (Next n) rest = rest n
@@ -95,7 +87,7 @@ onward BadNext rest = []
 -- the numbers of the records along the chain from record k on, in so many steps
 unfoldable pub steps : ℕ → List ℕ → ℕ → ℕ → List ℕ
 steps zero file last k = []
-steps (suc n) file last k = k ∷ onward (follows file last k) (λ j. steps n file last j)
+steps (suc n) file last k = k ∷ onward (successor (recordAt file k) last k) (λ j. steps n file last j)
 
 -- in as many steps as there are records from k on, which is enough, since numbers rise along the chain
 unfoldable pub chainFrom : List ℕ → ℕ → ℕ → List ℕ
@@ -114,7 +106,7 @@ judgeOne BadNext rest = J.BadNext
 
 unfoldable pub judgeAlong : List ℕ → ℕ → List ℕ → Judged
 judgeAlong file last [] = J.Linked
-judgeAlong file last (k ∷ ks) = judgeOne (follows file last k) (judgeAlong file last ks)
+judgeAlong file last (k ∷ ks) = judgeOne (successor (recordAt file k) last k) (judgeAlong file last ks)
 
 -- question 10, then 11 and 12 along the chain
 unfoldable pub judge : List ℕ → Judged

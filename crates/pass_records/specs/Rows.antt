@@ -12,7 +12,8 @@ use Rattle.pass_records.specs.PassRecords.{
   probeBits,
   receive,
   wellFormed,
-  follows,
+  recordAt,
+  successor,
   steps,
   chainFrom,
   chain,
@@ -40,23 +41,23 @@ unfolding recordCount
 three-records = refl
 
 pub example-linked : judge example ≡ J.Linked
-unfolding judge judgeAlong chainFrom steps follows wellFormed recordCount le
+unfolding judge judgeAlong chainFrom steps successor recordAt wellFormed recordCount le
 example-linked = refl
 
 pub example-chain : chain example ≡ 1 ∷ 3 ∷ []
-unfolding chainFrom steps follows wellFormed recordCount le
+unfolding chainFrom steps successor recordAt wellFormed recordCount le
 example-chain = refl
 
-pub first-now : receive example 1 ≡ 1000000000
-unfolding le
+pub first-now : receive (recordAt example 1) ≡ 1000000000
+unfolding recordAt le
 first-now = refl
 
-pub third-now : receive example 3 ≡ 1010000000
-unfolding le
+pub third-now : receive (recordAt example 3) ≡ 1010000000
+unfolding recordAt le
 third-now = refl
 
-pub third-probe : probeBits example 3 ≡ 0x413e_8480_0000_0000
-unfolding le
+pub third-probe : probeBits (recordAt example 3) ≡ 0x413e_8480_0000_0000
+unfolding recordAt le
 third-probe = refl
 
 pub most-accepted : (file : List ℕ) → length file ≡ mostRecords * recordBytes → recordCount file ≡ mostRecords

@@ -1,8 +1,6 @@
 // The records of a pass file, and the chain that links them. A record has 48 bytes, and records are numbered from 1.
 ghost use mathlib.Core.Path.{_≡_};
-ghost use Prim.Native.Nat.{_+_, _*_, _<_, _≤_, min};
-ghost use lib.ListN.{length};
-ghost use Rattle.le_bytes.specs.LeBytes.{le};
+ghost use Prim.Native.Nat.{_<_};
 ghost use Rattle.pass_records.specs.PassRecords as Records;
 
 pub const RECORD_BYTES: usize = 48;
@@ -18,7 +16,7 @@ pub const REPORT: u8 = 2;
 pub const TIMEOUT: u8 = 3;
 
 // What follows a record in its chain, or the question that it fails.
-pub enum Following {
+enum Following {
     Next(usize),
     End,
     BadKind,
@@ -34,7 +32,7 @@ pub enum Judged {
 }
 
 // Question 10: how many records a file has, and 0 where its length is not that of 1 to the most records.
-pub fn record_count(file: &[u8]) -> usize
+fn record_count(file: &[u8]) -> usize
     ensures { λ r. ⌜ r ≡ Records.recordCount (now (file .entry)) ⌝ }
 {
     let bytes = file.len();
@@ -47,114 +45,98 @@ pub fn record_count(file: &[u8]) -> usize
     bytes / RECORD_BYTES
 }
 
-// Where record k starts, or the end of the file if that is past it.
-fn base(file: &[u8], k: usize) -> usize
-    ensures { λ r. ⌜ r ≡ min (Records.base k) (length (now (file .entry))) ⌝ }
+// The bytes of record k, or none where the file has no record k.
+pub fn record_at(file: &[u8], k: usize) -> &[u8]
+    ensures { λ r. ⌜ now r ≡ Records.recordAt (now (file .entry)) k ⌝ }
 {
-    if k <= 1 {
-        return 0;
+    if k == 0 {
+        return &file[0..0];
     }
-    if file.len() / RECORD_BYTES < k - 1 {
-        return file.len();
+    if file.len() / RECORD_BYTES < k {
+        return &file[0..0];
     }
-    (k - 1) * RECORD_BYTES
+    let start = (k - 1) * RECORD_BYTES;
+    let end = start + RECORD_BYTES;
+    &file[start..end]
 }
 
-// The byte of record k at an offset.
-fn byte(file: &[u8], k: usize, offset: usize) -> u8
-    requires { ⌜ offset < Records.recordBytes ⌝ }
-    ensures { λ r. ⌜ r ≡ le 1 (now (file .entry)) (Records.base k + offset) ⌝ }
+// ---- the fields of a record
+// The number of the record that follows it, or 0.
+pub fn next(bytes: &[u8]) -> u32
+    ensures { λ r. ⌜ r ≡ Records.next (now (bytes .entry)) ⌝ }
 {
-    let at = base(file, k) + offset;
-    if file.len() <= at {
-        return 0;
-    }
-    file[at]
+    le_bytes::read_u32(bytes, 0)
 }
 
-// The number of 64 bits of record k at an offset.
-fn word(file: &[u8], k: usize, offset: usize) -> u64
-    requires { ⌜ offset < Records.recordBytes ⌝ }
-    ensures { λ r. ⌜ r ≡ le 8 (now (file .entry)) (Records.base k + offset) ⌝ }
+pub fn kind(bytes: &[u8]) -> u8
+    ensures { λ r. ⌜ r ≡ Records.kind (now (bytes .entry)) ⌝ }
 {
-    le_bytes::read_u64(file, base(file, k) + offset)
+    le_bytes::read_u8(bytes, 4)
 }
 
-// The number of the record that follows record k, or 0.
-pub fn next(file: &[u8], k: usize) -> u32
-    ensures { λ r. ⌜ r ≡ Records.next (now (file .entry)) k ⌝ }
+pub fn flag(bytes: &[u8]) -> u8
+    ensures { λ r. ⌜ r ≡ Records.flag (now (bytes .entry)) ⌝ }
 {
-    le_bytes::read_u32(file, base(file, k))
+    le_bytes::read_u8(bytes, 5)
 }
 
-pub fn kind(file: &[u8], k: usize) -> u8
-    ensures { λ r. ⌜ r ≡ Records.kind (now (file .entry)) k ⌝ }
+pub fn size(bytes: &[u8]) -> u16
+    ensures { λ r. ⌜ r ≡ Records.size (now (bytes .entry)) ⌝ }
 {
-    byte(file, k, 4)
+    le_bytes::read_u16(bytes, 6)
 }
 
-pub fn flag(file: &[u8], k: usize) -> u8
-    ensures { λ r. ⌜ r ≡ Records.flag (now (file .entry)) k ⌝ }
+pub fn sequence(bytes: &[u8]) -> u64
+    ensures { λ r. ⌜ r ≡ Records.sequence (now (bytes .entry)) ⌝ }
 {
-    byte(file, k, 5)
+    le_bytes::read_u64(bytes, 8)
 }
 
-pub fn size(file: &[u8], k: usize) -> u16
-    ensures { λ r. ⌜ r ≡ Records.size (now (file .entry)) k ⌝ }
+pub fn send(bytes: &[u8]) -> u64
+    ensures { λ r. ⌜ r ≡ Records.send (now (bytes .entry)) ⌝ }
 {
-    le_bytes::read_u16(file, base(file, k) + 6)
+    le_bytes::read_u64(bytes, 16)
 }
 
-pub fn sequence(file: &[u8], k: usize) -> u64
-    ensures { λ r. ⌜ r ≡ Records.sequence (now (file .entry)) k ⌝ }
+pub fn remote(bytes: &[u8]) -> u64
+    ensures { λ r. ⌜ r ≡ Records.remote (now (bytes .entry)) ⌝ }
 {
-    word(file, k, 8)
-}
-
-pub fn send(file: &[u8], k: usize) -> u64
-    ensures { λ r. ⌜ r ≡ Records.send (now (file .entry)) k ⌝ }
-{
-    word(file, k, 16)
-}
-
-pub fn remote(file: &[u8], k: usize) -> u64
-    ensures { λ r. ⌜ r ≡ Records.remote (now (file .entry)) k ⌝ }
-{
-    word(file, k, 24)
+    le_bytes::read_u64(bytes, 24)
 }
 
 // The local receive instant of a packet; the moment of a report or a timeout.
-pub fn receive(file: &[u8], k: usize) -> u64
-    ensures { λ r. ⌜ r ≡ Records.receive (now (file .entry)) k ⌝ }
+pub fn receive(bytes: &[u8]) -> u64
+    ensures { λ r. ⌜ r ≡ Records.receive (now (bytes .entry)) ⌝ }
 {
-    word(file, k, 32)
+    le_bytes::read_u64(bytes, 32)
 }
 
-pub fn probe_bits(file: &[u8], k: usize) -> u64
-    ensures { λ r. ⌜ r ≡ Records.probeBits (now (file .entry)) k ⌝ }
+pub fn probe_bits(bytes: &[u8]) -> u64
+    ensures { λ r. ⌜ r ≡ Records.probeBits (now (bytes .entry)) ⌝ }
 {
-    word(file, k, 40)
+    le_bytes::read_u64(bytes, 40)
 }
 
+// ---- the chain
 // Question 11: the kind is 1 to 3, and a report's flag 0 or 1.
-fn well_formed(file: &[u8], k: usize) -> bool
-    ensures { λ r. ⌜ r ≡ Records.wellFormed (now (file .entry)) k ⌝ }
+fn well_formed(bytes: &[u8]) -> bool
+    ensures { λ r. ⌜ r ≡ Records.wellFormed (now (bytes .entry)) ⌝ }
 {
-    let kind = kind(file, k);
+    let kind = kind(bytes);
     if kind == REPORT {
-        return flag(file, k) <= 1;
+        return flag(bytes) <= 1;
     }
     (PACKET <= kind) & (kind <= TIMEOUT)
 }
 
-// What follows record k of `last` records, by the record's own bytes.
-pub fn successor(bytes: &[u8], last: usize, k: usize) -> Following
+// What follows a record, which is record k of `last`.
+fn successor(bytes: &[u8], last: usize, k: usize) -> Following
     ensures { λ r. ⌜ r ≡ Records.successor (now (bytes .entry)) last k ⌝ }
 {
-    if !well_formed(bytes, 1) {
+    let named = next(bytes) as usize;
+    if !well_formed(bytes) {
         return Following::BadKind;
     }
-    let named = next(bytes, 1) as usize;
     if named == 0 {
         return Following::End;
     }
@@ -164,16 +146,14 @@ pub fn successor(bytes: &[u8], last: usize, k: usize) -> Following
     Following::BadNext
 }
 
-// The first no along the chain of a file that has `last` records or more.
+// The first no along the chain of a file, of `last` records.
 fn judge_chain(file: &[u8], last: usize) -> Judged
-    requires { ⌜ (0 < last) × (last * Records.recordBytes ≤ length (now file)) ⌝ }
+    requires { ⌜ 0 < last ⌝ }
     ensures { λ r. ⌜ r ≡ Records.judgeAlong (now (file .entry)) last (Records.chainFrom (now (file .entry)) last 1) ⌝ }
 {
     let mut k = 1;
     loop {
-        let start = (k - 1) * RECORD_BYTES;
-        let end = start + RECORD_BYTES;
-        match successor(&file[start..end], last, k) {
+        match successor(record_at(file, k), last, k) {
             Following::Next(n) => {
                 k = n;
             }

@@ -7,6 +7,7 @@ use mathlib.Core.List.{List, [], _∷_, _++_}
 use lib.Dec.{eqb, leb}
 use lib.ListN.{length}
 use borrow.Author.Tests.{eq-eqb, eqb-true, le-leb, leb-true}
+use Rattle.bool_laws.specs.Bools.{both, same}
 use Rattle.receive_order.specs.ReceiveOrder.{count, isSorted, mostPackets}
 use Rattle.receive_order.specs.Lists.{All}
 use Rattle.receive_order.specs.Laws.{all-ordered, ordered-all, ordered-length, ordered-sorted}
@@ -59,10 +60,6 @@ unfolding firstNo ofReport
 lists-refused r rest n4 = rw n4
 
 -- ---- a report's lists
-both : (a b : Bool) → (a && b) ≡ true → (a ≡ true) × (b ≡ true)
-both true b e = (refl, e)
-both false b e = absurd (let z : _≡_ {A = ℕ} 0 1 = cc in omega arith)
-
 -- each list is as long as the first
 pub record Lengths (n : ℕ) (sizes sends remotes receives : List ℕ) : Type 0 where
   pub few : n ≤ mostPackets
@@ -97,11 +94,6 @@ all-every : (test : ℕ → Bool) (xs : List ℕ) → All (λ x. test x ≡ true
 unfolding every
 all-every test [] h = refl
 all-every test (x ∷ xs) h = rw (h .0, all-every test xs (h .1))
-
-same : (a b : Bool) → (a ≡ true → b ≡ true) → (b ≡ true → a ≡ true) → a ≡ b
-same true b f g = sym (f refl)
-same false true f g = g refl
-same false false f g = refl
 
 module _ (r : Report) (y4 : listsIn (r .sequences) (r .sizes) (r .sends) (r .remotes) (r .receives) ≡ true) where
   n : Lengths (length (r .sequences)) (r .sizes) (r .sends) (r .remotes) (r .receives)

@@ -7,15 +7,17 @@ use native.Mathlib.Omega.{arith}
 use lib.Dec.{T}
 use lib.Ieee as Ieee
 use lib.Ieee.{Float, nan, inf, fin, binary64, le, fits}
+use lib.Ieee.Bits.{ofBits-fits}
 use lib.Ieee.Fits.{mul-fits}
 use lib.Ieee.Scale.{finite}
-use Rattle.float_order.specs.Binary64.{add, mul, lit}
+use Rattle.float_order.specs.Binary64.{add, mul, lit, thousand}
 use Rattle.float_order.specs.Order.{ordered, le-refl, le-trans, le-total, le-ordered-l}
 use Rattle.float_order.specs.Ops.{zero₊, mul-ordered}
 use Rattle.float_order.specs.Exact.{le-add}
-use Rattle.float_order.specs.Range.{In, nat, in-ordered, in-wider}
+use Rattle.float_order.specs.Range.{In, nat, in-ordered, in-wider, in-closed}
 use Rattle.float_order.specs.Interval.{floats}
 use Rattle.float_order.specs.Plus.{plus, climb}
+use Rattle.bool_laws.specs.Bools.{chosen, cases, holds}
 use Rattle.float.specs.Float.{min, max, clamp}
 use Rattle.float.specs.MinMax.{min-either, min-le-l, max-floor, clamp-in, le-clamp}
 use Rattle.average.specs.Average as Average
@@ -24,6 +26,7 @@ use Rattle.average.specs.declared.OptionF64.{OptionF64}
 use Rattle.average.specs.declared.OptionF64.the-variants as F64
 use Rattle.average.specs.declared.MovingAverage.{MovingAverage}
 use Rattle.bandwidth.specs.Bandwidth as B
+use Rattle.bandwidth.specs.Bandwidth.{minEstimate, maxEstimate, mostRate}
 use Rattle.bandwidth.specs.declared.Bitrate.{Bitrate}
 use Rattle.time.specs.Time.{durationOrElse}
 use Rattle.time.specs.declared.OptionInstant.{OptionInstant}
@@ -52,7 +55,6 @@ use Rattle.rate_control.specs.RateControl.{
   resetOver,
   resetUnder,
   setProbeResult,
-  thousand,
   three,
   timeToReduceFurther,
   transition,
@@ -67,13 +69,6 @@ use Rattle.rate_control.specs.RateControl.{
 }
 
 -- ---- what is shown
--- MIN_ESTIMATE and MAX_ESTIMATE: 40,000 and 10 ^ 10
-abbrev pub minEstimate : Bitrate
-minEstimate = B.rate (lit 0x40e3_8800_0000_0000)
-
-abbrev pub maxEstimate : Bitrate
-maxEstimate = B.rate (lit 0x4202_a05f_2000_0000)
-
 abbrev pub estimate : RateControl → Float
 estimate c = c .«estimated_bitrate» .0
 
@@ -107,12 +102,12 @@ abbrev pub DurationAtMost : ℕ → OptionDuration → Type 0
 DurationAtMost n Duration.None = Unit
 DurationAtMost n (Duration.Some d) = d ≤ n
 
--- 10 ^ 14
-abbrev pub mostRate : Float
-mostRate = lit 0x42d6_bcc4_1e90_0000
+-- the averaged observed rate is from 0 to the greatest rate
+rates : Averages.Limits observedBitRateSmoothingFactor (mostRate .0)
+rates = record { factor-in = in-closed (unfold floats in tt); limit-in = in-closed (unfold floats in tt); limit-fits = ofBits-fits binary64 _ }
 
 abbrev pub KeptAverage : MovingAverage → Type 0
-KeptAverage m = Averages.Kept observedBitRateSmoothingFactor mostRate m
+KeptAverage m = Averages.Kept observedBitRateSmoothingFactor (mostRate .0) m
 
 pub record KeptAt (moment rtt : ℕ) (average : MovingAverage) (last : OptionInstant) (lastRtt : OptionDuration) : Type 0 where
   pub average-kept : KeptAverage average
@@ -124,10 +119,6 @@ abbrev pub Kept : ℕ → ℕ → RateControl → Type 0
 Kept moment rtt c = KeptAt moment rtt (c .«averaged_observed_bitrate») (c .«last_estimate_update») (c .«last_rtt»)
 
 -- ---- the range
-either : {A : Type 0} (P : A → Type 0) (t : Bool) (x y : A) → (T t → P x) → P y → P (cond t x y)
-either P true x y p q = p tt
-either P false x y p q = q
-
 updateEstimate-sound : (c : RateControl) (b : Bitrate) (now : ℕ) → T (ordered (b .0)) → Sound c → Sound (updateEstimate c b now)
 unfolding updateEstimate withEstimate B.clamp
 updateEstimate-sound c b now o h = record {
@@ -157,7 +148,7 @@ module _ (c : RateControl) (observed : Bitrate) (now : ℕ) (f : T (finite (obse
   increase-sound : Sound (increase c observed now)
   unfolding increase withEstimate withAverage
   increase-sound =
-      either Sound (le (increaseLimit (observed .0)) (estimate c)) _ _ (λ t. h)
+      chosen Sound (le (increaseLimit (observed .0)) (estimate c)) h
       (updateEstimate-sound (withAverage c (resetAbove (c .«averaged_observed_bitrate») (observed .0))) _ now
       (min-ordered _ _ (min-ordered (ratio observed) _ (ratio-ordered observed f))) h)
 
@@ -165,7 +156,7 @@ module _ (c : RateControl) (observed : Bitrate) (now : ℕ) (f : T (finite (obse
   unfolding decrease withState
   decrease-sound =
       updateEstimate-sound (withState c Hold) _ now
-      (either (λ (b : Bitrate). T (ordered (b .0))) (B.lt (c .«estimated_bitrate») (B.mul observed beta)) _ _ (λ t. in-ordered (h .in-range))
+      (chosen (λ (b : Bitrate). T (ordered (b .0))) (B.lt (c .«estimated_bitrate») (B.mul observed beta)) (in-ordered (h .in-range))
       (mul-ordered binary64 (observed .0) beta f (unfold floats in tt))) h
 
 -- whatever the signal, the round trip and the moment
@@ -179,7 +170,7 @@ update-sound c s observed rtt now f h = go (transition (c .state) s)
 
     go : (state : State) → Sound (updateIn state next observed now)
     go Increase = increase-sound next observed now f h
-    go Decrease = either Sound (timeToReduceFurther (updateObservedBitrate next observed) now observed) _ _ (λ t. decrease-sound (updateObservedBitrate next observed) observed now f h) h
+    go Decrease = chosen Sound (timeToReduceFurther (updateObservedBitrate next observed) now observed) (decrease-sound (updateObservedBitrate next observed) observed now f h) h
     go Hold = h
 
 -- ---- one increase
@@ -191,7 +182,7 @@ sum-high x w h =
 
 raised-high : (c : RateControl) (since : ℕ) → InRange (estimate c) → T (le (plus (estimate c) 999) (raised c since))
 unfolding raised additiveIncrease multiplicativeIncrease
-raised-high c since h = either (λ (x : Float). T (le (plus (estimate c) 999) x)) (isNearConvergence c) _ _ (λ t. sum-high (estimate c) _ h) (sum-high (estimate c) _ h)
+raised-high c since h = chosen (λ (x : Float). T (le (plus (estimate c) 999) x)) (isNearConvergence c) (sum-high (estimate c) _ h) (sum-high (estimate c) _ h)
 
 -- the limit is at least 1.5 times the observed rate; both may be infinite
 le-limit : (x : Float) → T (fits binary64 x) → T (ordered x) → T (le x (add x (lit 0x40c3_8800_0000_0000)))
@@ -229,9 +220,9 @@ module _ (c : RateControl) (observed : Bitrate) (now : ℕ) (f : T (finite (obse
   pub increase-high : AtLeastSmallest (plus (estimate c) 999) (mul (observed .0) maxEstimateRatio) (nat (10 ^ 10)) (estimate (increase c observed now))
   unfolding increase updateEstimate withEstimate withAverage B.clamp
   increase-high =
-      either (λ (x : RateControl). Reached (estimate x)) (le (increaseLimit (observed .0)) (estimate c)) _ _
-      (λ t. inr (inl (le-trans (ratio observed) (increaseLimit (observed .0)) (estimate c) limit-high t)))
-      (rw (h .low-is, h .high-is) (reached-clamp _ (min-ordered _ _ (min-ordered (ratio observed) _ (ratio-ordered observed f))) (reached-min _ (raised-high _ _ (h .in-range)))))
+      cases (λ (x : RateControl). Reached (estimate x)) (le (increaseLimit (observed .0)) (estimate c))
+      (λ e. inr (inl (le-trans (ratio observed) (increaseLimit (observed .0)) (estimate c) limit-high (holds e))))
+      (λ e. rw (h .low-is, h .high-is) (reached-clamp _ (min-ordered _ _ (min-ordered (ratio observed) _ (ratio-ordered observed f))) (reached-min _ (raised-high _ _ (h .in-range)))))
 
 -- ---- a normal signal
 module _ (c : RateControl) (observed : Bitrate) (rtt : OptionDuration) (now : ℕ) where
@@ -261,7 +252,7 @@ module _ (c : RateControl) (observed : Bitrate) (rtt : OptionDuration) (now : �
       normal Decrease = tt
 
       go : (s : State) → NotDecrease s → NotDecrease (updateIn s (withInputs c Normal observed rtt) observed now .state)
-      go Increase n = either (λ (x : RateControl). NotDecrease (x .state)) (le (increaseLimit (observed .0)) (estimate c)) _ _ (λ t. normal (c .state)) (normal (c .state))
+      go Increase n = chosen (λ (x : RateControl). NotDecrease (x .state)) (le (increaseLimit (observed .0)) (estimate c)) (normal (c .state)) (normal (c .state))
       go Hold n = normal (c .state)
       go Decrease n = absurd n
 
@@ -272,7 +263,7 @@ resetBelow-kept m value k = go (Average.lowerRange m three)
   where
     go : (lower : OptionF64) → KeptAverage (resetUnder lower m value)
     go F64.None = k
-    go (F64.Some lower) = either KeptAverage (Ieee.lt value lower) _ _ (λ t. Averages.reset-kept k) k
+    go (F64.Some lower) = chosen KeptAverage (Ieee.lt value lower) (Averages.reset-kept k) k
 
 resetAbove-kept : (m : MovingAverage) (value : Float) → KeptAverage m → KeptAverage (resetAbove m value)
 unfolding resetAbove
@@ -280,10 +271,10 @@ resetAbove-kept m value k = go (Average.upperRange m three)
   where
     go : (upper : OptionF64) → KeptAverage (resetOver upper m value)
     go F64.None = k
-    go (F64.Some upper) = either KeptAverage (Ieee.lt upper value) _ _ (λ t. Averages.reset-kept k) k
+    go (F64.Some upper) = chosen KeptAverage (Ieee.lt upper value) (Averages.reset-kept k) k
 
 pub new-kept : (start low high : Bitrate) (moment rtt : ℕ) → Kept moment rtt (new start low high)
-new-kept start low high moment rtt = record { average-kept = Averages.new-kept observedBitRateSmoothingFactor mostRate; last-at-most = tt; rtt-at-most = tt }
+new-kept start low high moment rtt = record { average-kept = Averages.new-kept observedBitRateSmoothingFactor (mostRate .0); last-at-most = tt; rtt-at-most = tt }
 
 module _ (c : RateControl) (moment : ℕ) (rtt : ℕ) (k : Kept moment rtt c) where
   withEstimate-kept : (b : Bitrate) (now : ℕ) → now ≤ moment → Kept moment rtt (withEstimate c b now)
@@ -306,20 +297,20 @@ module _ (c : RateControl) (moment : ℕ) (rtt : ℕ) (k : Kept moment rtt c) wh
   unfolding setProbeResult updateEstimate
   setProbeResult-kept probe now t = withEstimate-kept _ now t
 
-module _ (moment rtt : ℕ) (observed : Bitrate) (now : ℕ) (i : In zero₊ mostRate (observed .0)) (t : T (fits binary64 (observed .0))) (n : now ≤ moment) where
+module _ (moment rtt : ℕ) (observed : Bitrate) (now : ℕ) (i : In zero₊ (mostRate .0) (observed .0)) (t : T (fits binary64 (observed .0))) (n : now ≤ moment) where
   updateObservedBitrate-kept : (c : RateControl) → Kept moment rtt c → Kept moment rtt (updateObservedBitrate c observed)
   unfolding updateObservedBitrate
   updateObservedBitrate-kept c k =
-      withAverage-kept c moment rtt k _ (Averages.update-kept Averages.rates i t (resetBelow-kept (c .«averaged_observed_bitrate») (observed .0) (k .average-kept)))
+      withAverage-kept c moment rtt k _ (Averages.update-kept rates i t (resetBelow-kept (c .«averaged_observed_bitrate») (observed .0) (k .average-kept)))
 
   updateIn-kept : (s : State) (c : RateControl) → Kept moment rtt c → Kept moment rtt (updateIn s c observed now)
   unfolding increase decrease updateEstimate withState
   updateIn-kept Increase c k =
-      either (Kept moment rtt) (le (increaseLimit (observed .0)) (estimate c)) _ _ (λ t. withEstimate-kept c moment rtt k _ now n)
+      chosen (Kept moment rtt) (le (increaseLimit (observed .0)) (estimate c)) (withEstimate-kept c moment rtt k _ now n)
       (withEstimate-kept _ moment rtt (withAverage-kept c moment rtt k _ (resetAbove-kept (c .«averaged_observed_bitrate») (observed .0) (k .average-kept))) _ now n)
   updateIn-kept Decrease c k =
-      either (Kept moment rtt) (timeToReduceFurther (updateObservedBitrate c observed) now observed) _ _
-      (λ t. withEstimate-kept (withState (updateObservedBitrate c observed) Hold) moment rtt (updateObservedBitrate-kept c k) _ now n) (updateObservedBitrate-kept c k)
+      chosen (Kept moment rtt) (timeToReduceFurther (updateObservedBitrate c observed) now observed)
+      (withEstimate-kept (withState (updateObservedBitrate c observed) Hold) moment rtt (updateObservedBitrate-kept c k) _ now n) (updateObservedBitrate-kept c k)
   updateIn-kept Hold c k = k
 
   -- whatever the signal

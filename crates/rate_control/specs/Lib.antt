@@ -1,4 +1,3 @@
 pub mod RateControl
-pub mod Constants
 pub mod Laws
 pub mod Rows

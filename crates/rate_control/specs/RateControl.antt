@@ -4,7 +4,9 @@ use mathlib.Core.Bool.{Bool, true, false, cond}
 use lib.Dec.{leb, ltb}
 use lib.Ieee as Ieee
 use lib.Ieee.{Float}
-use Rattle.float_order.specs.Binary64.{add, sub, mul, div, lit}
+use mathlib.Core.Path.{_≡_, refl}
+use Rattle.float_order.specs.Binary64.{add, sub, mul, div, lit, decimal, one, thousand}
+use Rattle.float_order.specs.Interval.{floats}
 use Rattle.float.specs.Float.{min, max, ceil}
 use Rattle.seconds.specs.Seconds.{asSecsF64}
 use Rattle.growth.specs.Growth.{growthFactor}
@@ -33,11 +35,20 @@ use Rattle.rate_control.specs.declared.RateControl.{RateControl}
 abbrev pub observedBitRateSmoothingFactor : Float
 observedBitRateSmoothingFactor = lit 0x3fee_6666_6666_6666
 
+pub observedBitRateSmoothingFactor-is : observedBitRateSmoothingFactor ≡ decimal 95 100
+observedBitRateSmoothingFactor-is = unfold floats in refl
+
 abbrev pub beta : Float
 beta = lit 0x3feb_3333_3333_3333
 
+pub beta-is : beta ≡ decimal 85 100
+beta-is = unfold floats in refl
+
 abbrev pub maxEstimateRatio : Float
 maxEstimateRatio = lit 0x3ff8_0000_0000_0000
+
+pub maxEstimateRatio-is : maxEstimateRatio ≡ decimal 15 10
+maxEstimateRatio-is = unfold floats in refl
 
 abbrev pub defaultBackoffTime : ℕ
 defaultBackoffTime = 100000000
@@ -45,27 +56,39 @@ defaultBackoffTime = 100000000
 abbrev pub observedBitrateResetThresholdStd : Float
 observedBitrateResetThresholdStd = lit 0x4008_0000_0000_0000
 
+pub observedBitrateResetThresholdStd-is : observedBitrateResetThresholdStd ≡ decimal 3 1
+observedBitrateResetThresholdStd-is = unfold floats in refl
+
 -- without a name in the Rust
 abbrev pub half : Float
 half = lit 0x3fe0_0000_0000_0000
 
-abbrev pub one : Float
-one = lit 0x3ff0_0000_0000_0000
+pub half-is : half ≡ decimal 5 10
+half-is = unfold floats in refl
 
 abbrev pub three : Float
 three = lit 0x4008_0000_0000_0000
 
-abbrev pub thousand : Float
-thousand = lit 0x408f_4000_0000_0000
+pub three-is : three ≡ decimal 3 1
+three-is = unfold floats in refl
 
 abbrev pub framesPerSecond : Float
 framesPerSecond = lit 0x403e_0000_0000_0000
 
+pub framesPerSecond-is : framesPerSecond ≡ decimal 30 1
+framesPerSecond-is = unfold floats in refl
+
 abbrev pub packetBytes : Float
 packetBytes = lit 0x4092_c000_0000_0000
 
+pub packetBytes-is : packetBytes ≡ decimal 1200 1
+packetBytes-is = unfold floats in refl
+
 abbrev pub increaseLimitMargin : Float
 increaseLimitMargin = lit 0x40c3_8800_0000_0000
+
+pub increaseLimitMargin-is : increaseLimitMargin ≡ decimal 10000 1
+increaseLimitMargin-is = unfold floats in refl
 
 -- ---- signals and states
 unfoldable pub signal : BandwidthUsage → Signal

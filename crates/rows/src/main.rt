@@ -11,7 +11,7 @@ use trendline::Delays;
 
 // Two packets of which the second is sent and received so many ns after the first.
 fn group(name: &[u8], spacing: u64) {
-    let first = ArrivalGroup::new().add_packet(0, 0).group;
+    let first = ArrivalGroup::new(0, 0);
     io::write_all(STDOUT_FILENO, name);
     if first.add_packet(spacing, spacing).need_new_group {
         io::write_all(STDOUT_FILENO, b": starts anew\n");

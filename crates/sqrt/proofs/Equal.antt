@@ -15,7 +15,7 @@ use lib.Ieee.Positive.{positive, positive-of-value}
 use Rattle.float_order.specs.Order.{or-r, le-refl, le-antisym, no-nan-ordered}
 use Rattle.float_order.specs.Same.{isZero, eq→same}
 use Rattle.float_order.specs.Bits.{high-value, no-nan-bits}
-use Rattle.sqrt.proofs.Products.{both}
+use Rattle.bool_laws.specs.Bools.{same-holds}
 
 pub eq-nan : (d : Float) → eq d nan ≡ false
 unfolding eq
@@ -31,7 +31,7 @@ pub eq-zero : (d : Float) (s : Bool) (e : ℤ) → eq d (fin s 0 e) ≡ isZero d
 unfolding eq
 eq-zero nan s e = refl
 eq-zero (inf t) s e = refl
-eq-zero (fin t n k) s e = both (level t a s b) (eqb (n * up k) 0) (λ h. eq→eqb (none (eqb→eq a b (and-l (eqb a b) (Bool·beq t s || eqb a 0) h)))) (λ h. all (eqb→eq (n * up k) 0 h))
+eq-zero (fin t n k) s e = same-holds (level t a s b) (eqb (n * up k) 0) (λ h. eq→eqb (none (eqb→eq a b (and-l (eqb a b) (Bool·beq t s || eqb a 0) h)))) (λ h. all (eqb→eq (n * up k) 0 h))
   where
     a : ℕ
     a = n * up k * down e
@@ -69,7 +69,7 @@ module _ (P : ℕ) (l : 2 ^ 52 ≤ P) (h : P < 2047 * 2 ^ 52) where
 
   pub by-bits : (d : Float) → T (fits binary64 d) → eqb (toBits binary64 d) P ≡ eq d (ofBits binary64 P)
   by-bits d f =
-      both (eqb (toBits binary64 d) P) (eq d (ofBits binary64 P))
+      same-holds (eqb (toBits binary64 d) P) (eq d (ofBits binary64 P))
       (λ t. subst (λ (x : Float). T (eq x (ofBits binary64 P))) (sym (ap (ofBits binary64) (eqb→eq (toBits binary64 d) P t)) ∙ ofBits-toBits binary64 d f) self)
       (λ t.
       elim (eq→same binary64 d (ofBits binary64 P) f (ofBits-fits binary64 P) t) [

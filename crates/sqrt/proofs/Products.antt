@@ -6,6 +6,7 @@ use native.Mathlib.Nat.{mul-le-mul, mul-assoc, mul-comm, mul-left-comm, add-mul,
 use native.Mathlib.Omega.{arith}
 use lib.Dec.{T, leb, ltb, eqb, leb→le, le→leb, ltb→lt, lt→ltb, eqb→eq}
 use lib.Ieee.Fits.{and-i, and-l, and-r, eq→eqb}
+use Rattle.bool_laws.specs.Bools.{same-holds}
 use Rattle.sqrt.specs.Sqrt.{wholeRoot}
 use Rattle.sqrt.specs.WholeRoot.{whole, root-ge, square-odd}
 use Rattle.sqrt.specs.RootBits.{rootBits}
@@ -34,12 +35,6 @@ below big s o h =
     let e : s ≡ 2 * (s / 2) + 1 = omega arith in
     omega (arith, mul-le-mul h h, whole (big * 2 ^ 54) .0, square-odd (s / 2), ap (λ (x : ℕ). x * x) e)
 
-pub both : (a b : Bool) → (T a → T b) → (T b → T a) → a ≡ b
-both true true f g = refl
-both false false f g = refl
-both true false f g = absurd (f tt)
-both false true f g = absurd (g tt)
-
 module _ (big base b : ℕ) (h : base < b) where
   abbrev lower : ℕ
   lower = 2 * (b - base) - 1
@@ -61,6 +56,6 @@ module _ (big base b : ℕ) (h : base < b) where
   tested =
       let l = lower * lower / 2 ^ 54 in
       let u = upper * upper / 2 ^ 54 in
-      both (ltb l big && leb big u) (eqb b (rootBits big base))
+      same-holds (ltb l big && leb big u) (eqb b (rootBits big base))
       (λ t. eq→eqb (found (ltb→lt l big (and-l (ltb l big) (leb big u) t)) (leb→le big u (and-r (ltb l big) (leb big u) t))))
       (λ t. let m = meets (eqb→eq b (rootBits big base) t) in and-i (ltb l big) (leb big u) (lt→ltb l big (m .0)) (le→leb big u (m .1)))

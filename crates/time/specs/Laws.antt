@@ -12,6 +12,7 @@ use borrow.Author.Tests.{le-leb, lt-leb, leb-true, lt-ltb, le-ltb, ltb-true, ltb
 use Rattle.float_order.specs.Casts.{ofInt-in}
 use Rattle.float_order.specs.Interval.{floats}
 use Rattle.float_order.specs.Range.{In, nat, in-closed, add-in, div-in}
+use Rattle.bool_laws.specs.Bools.{cases}
 use Rattle.seconds.specs.Seconds as Seconds
 use Rattle.time.specs.declared.Ordering.the-variants.{Less, Equal, Greater}
 use Rattle.time.specs.declared.Timestamp.{Timestamp}
@@ -23,18 +24,14 @@ use Rattle.time.specs.Time.{placeLimited, place, placeLimitedInstant, pl
 use Rattle.time.specs.Time.{cmp, eq, lt, le, cmpInstant, eqInstant, ltInstant, leInstant}
 use Rattle.time.specs.Time.{neg, difference, addLimited, add, sub, addLimitedDelta, addDelta, subDelta, sinceLimited, since, divLimited, div, secsLimited, asSecsF64}
 
-either : {A : Type 0} (P : A → Type 0) (t : Bool) {x y : A} → (t ≡ true → P x) → (t ≡ false → P y) → P (cond t x y)
-either P true f g = f refl
-either P false f g = g refl
-
 -- ---- the limits: what is limited is within them, and what is within them stays as it is
 pub within-positive : (d : ℕ) → Within (positive d)
 unfolding positive
-within-positive d = either Within (leb d limit) (leb-true d limit) (λ e. tt)
+within-positive d = cases Within (leb d limit) (leb-true d limit) (λ e. tt)
 
 pub within-negative : (d : ℕ) → Within (negative d)
 unfolding negative
-within-negative d = either Within (leb d limit) (leb-true d limit) (λ e. tt)
+within-negative d = cases Within (leb d limit) (leb-true d limit) (λ e. tt)
 
 pub within-limited : (a : TimeDelta) → Within (limited a)
 unfolding limited
@@ -58,7 +55,7 @@ limited-limited a = limited-within (limited a) (within-limited a)
 
 pub within-exact : (t : ℕ) → WithinInstant (exact t)
 unfolding exact
-within-exact t = either WithinInstant (leb t limit) (leb-true t limit) (λ e. tt)
+within-exact t = cases WithinInstant (leb t limit) (leb-true t limit) (λ e. tt)
 
 pub within-limited-instant : (t : Timestamp) → WithinInstant (limitedInstant t)
 unfolding limitedInstant
@@ -89,13 +86,13 @@ within-neg PositiveInfinity = tt
 pub neg-limited : (a : TimeDelta) → neg (limited a) ≡ neg a
 unfolding neg limited positive negative
 neg-limited NegativeInfinity = refl
-neg-limited (Negative d) = either (λ x. neg x ≡ positive d) (leb d limit) (λ e. refl) (λ e. rw e)
-neg-limited (Positive d) = either (λ x. neg x ≡ negative d) (leb d limit) (λ e. refl) (λ e. rw e)
+neg-limited (Negative d) = cases (λ x. neg x ≡ positive d) (leb d limit) (λ e. refl) (λ e. rw e)
+neg-limited (Positive d) = cases (λ x. neg x ≡ negative d) (leb d limit) (λ e. refl) (λ e. rw e)
 neg-limited PositiveInfinity = refl
 
 within-difference : {a b : ℕ} → a ≤ limit → b ≤ limit → Within (difference a b)
 unfolding difference
-within-difference {a} {b} h k = either Within (ltb a b) (λ e. omega arith) (λ e. omega arith)
+within-difference {a} {b} h k = cases Within (ltb a b) (λ e. omega arith) (λ e. omega arith)
 
 within-added : (a b : TimeDelta) → Within a → Within b → Within (addLimited a b)
 unfolding addLimited
@@ -124,8 +121,8 @@ within-sub a b = within-add a (neg b)
 within-divided : (a : TimeDelta) (n : ℕ) → Within a → Within (divLimited a n)
 unfolding divLimited
 within-divided NegativeInfinity n h = tt
-within-divided (Negative d) n h = either Within (eqb n 0) (λ e. tt) (λ e. le-trans (div-le-self d n) h)
-within-divided (Positive d) n h = either Within (eqb n 0) (λ e. tt) (λ e. le-trans (div-le-self d n) h)
+within-divided (Negative d) n h = cases Within (eqb n 0) (λ e. tt) (λ e. le-trans (div-le-self d n) h)
+within-divided (Positive d) n h = cases Within (eqb n 0) (λ e. tt) (λ e. le-trans (div-le-self d n) h)
 within-divided PositiveInfinity n h = tt
 
 pub within-div : (a : TimeDelta) (n : ℕ) → Within (div a n)
@@ -153,7 +150,7 @@ within-moved DistantPast NegativeInfinity h = tt
 within-moved DistantPast (Negative d) h = tt
 within-moved DistantPast (Positive d) h = tt
 within-moved (Exact t) NegativeInfinity h = tt
-within-moved (Exact t) (Negative d) h = either WithinInstant (ltb t d) (λ e. tt) (λ e. omega arith)
+within-moved (Exact t) (Negative d) h = cases WithinInstant (ltb t d) (λ e. tt) (λ e. omega arith)
 within-moved (Exact t) (Positive d) h = within-exact (t + d)
 within-moved DistantFuture NegativeInfinity h = tt
 within-moved DistantFuture (Negative d) h = tt
@@ -311,82 +308,11 @@ unfolding addDelta addLimitedDelta difference exact
 add-since a b h k =
     rw
     (since-exact a b h k, limited-within-instant (Exact b) k, limited-within (difference a b) (within-difference h k))
-    (either
+    (cases
     (λ d. addLimitedDelta (Exact b) d ≡ Exact a)
     (ltb a b)
     (λ e. rw (le-ltb b (b - a) (omega arith)) (ap Exact (omega (arith, ltb-true a b e))))
     (λ e. let s : b + (a - b) ≡ a = omega (arith, ltb-false a b e) in rw (s, le-leb a limit h)))
-
--- ---- the difference of two numbers: its place, and the order of differences
-place-zero : place (Positive 0) ≡ limit + 2
-unfolding place placeLimited limited positive
-place-zero = refl
-
-place-positive : (d : ℕ) → d ≤ limit → place (Positive d) ≡ limit + 2 + d
-unfolding place placeLimited limited positive
-place-positive d h = rw (le-leb d limit h)
-
-place-below : {a b : ℕ} → a < b → b ≤ limit → place (difference a b) ≡ limit + 1 - (b - a)
-unfolding place placeLimited limited negative difference
-place-below {a} {b} l h = rw (lt-ltb a b l, le-leb (b - a) limit (omega arith))
-
-place-above : {a b : ℕ} → b ≤ a → a ≤ limit → place (difference a b) ≡ limit + 2 + (a - b)
-unfolding place placeLimited limited positive difference
-place-above {a} {b} l h = rw (le-ltb a b l, le-leb (a - b) limit (omega arith))
-
-module _ {a b : ℕ} (h : a ≤ limit) (k : b ≤ limit) where
-  pub eq-difference : eq (difference a b) (Positive 0) ≡ eqb a b
-  eq-difference =
-      dichotomy a b
-      (λ l. rw (place-below l k, place-zero, ne-eqb a b (λ e. omega arith)) (ne-eqb (limit + 1 - (b - a)) (limit + 2) (λ e. omega arith)))
-      (λ l. rw (place-above l h, place-zero) (
-      dichotomy b a
-      (λ m. rw (ne-eqb a b (λ e. omega arith)) (ne-eqb (limit + 2 + (a - b)) (limit + 2) (λ e. omega arith)))
-      (λ m. rw (eq-eqb a b (omega arith)) (eq-eqb (limit + 2 + (a - b)) (limit + 2) (omega arith)))))
-
-  pub lt-difference : lt (difference a b) (Positive 0) ≡ ltb a b
-  lt-difference =
-      dichotomy a b
-      (λ l. rw (place-below l k, place-zero, lt-ltb a b l) (lt-ltb (limit + 1 - (b - a)) (limit + 2) (omega arith)))
-      (λ l. rw (place-above l h, place-zero, le-ltb a b l) (le-ltb (limit + 2 + (a - b)) (limit + 2) (omega arith)))
-
-  pub le-difference : (n : ℕ) → n ≤ limit → le (difference a b) (positive n) ≡ leb a (b + n)
-  unfolding positive
-  le-difference n m =
-      rw (le-leb n limit m, place-positive n m) (
-      dichotomy a b
-      (λ l. rw (place-below l k, le-leb a (b + n) (omega arith)) (le-leb (limit + 1 - (b - a)) (limit + 2 + n) (omega arith)))
-      (λ l. rw (place-above l h) (
-      dichotomy (b + n) a
-      (λ o. rw (lt-leb a (b + n) o) (lt-leb (limit + 2 + (a - b)) (limit + 2 + n) (omega arith)))
-      (λ o. rw (le-leb a (b + n) o) (le-leb (limit + 2 + (a - b)) (limit + 2 + n) (omega arith))))))
-
--- only how far apart the two are counts
-difference-shift : (a b c d : ℕ) → a + d ≡ c + b → difference a b ≡ difference c d
-unfolding difference
-difference-shift a b c d e =
-    dichotomy a b
-    (λ l. rw (lt-ltb a b l, lt-ltb c d (omega arith)) (ap Negative (omega arith)))
-    (λ l. rw (le-ltb a b l, le-ltb c d (omega arith)) (ap Positive (omega arith)))
-
-difference-below : {a b : ℕ} → a < b → difference a b ≡ Negative (b - a)
-unfolding difference
-difference-below {a} {b} l = rw (lt-ltb a b l)
-
-difference-above : {a b : ℕ} → b ≤ a → difference a b ≡ Positive (a - b)
-unfolding difference
-difference-above {a} {b} l = rw (le-ltb a b l)
-
-pub sub-difference : (a b c d : ℕ) → a + d ≤ limit → c + b ≤ limit → sub (difference a b) (difference c d) ≡ difference (a + d) (c + b)
-unfolding sub add addLimited neg limited positive negative
-sub-difference a b c d h k =
-    dichotomy a b
-    (λ l. dichotomy c d
-    (λ m. rw (difference-below l, difference-below m, le-leb (b - a) limit (omega arith), le-leb (d - c) limit (omega arith), le-leb (d - c) limit (omega arith)) (difference-shift (d - c) (b - a) (a + d) (c + b) (omega arith)))
-    (λ m. rw (difference-below l, difference-above m, le-leb (b - a) limit (omega arith), le-leb (c - d) limit (omega arith), le-leb (c - d) limit (omega arith), le-leb ((b - a) + (c - d)) limit (omega arith), difference-below {a = a + d} {b = c + b} (omega arith)) (ap Negative (omega arith))))
-    (λ l. dichotomy c d
-    (λ m. rw (difference-above l, difference-below m, le-leb (a - b) limit (omega arith), le-leb (d - c) limit (omega arith), le-leb (d - c) limit (omega arith), le-leb ((a - b) + (d - c)) limit (omega arith), difference-above {a = a + d} {b = c + b} (omega arith)) (ap Positive (omega arith)))
-    (λ m. rw (difference-above l, difference-above m, le-leb (a - b) limit (omega arith), le-leb (c - d) limit (omega arith), le-leb (c - d) limit (omega arith)) (difference-shift (a - b) (c - d) (a + d) (c + b) (omega arith))))
 
 pub seconds-positive : (d : ℕ) → d ≤ limit → asSecsF64 (Positive d) ≡ Seconds.asSecsF64 d
 unfolding asSecsF64 secsLimited

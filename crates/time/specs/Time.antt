@@ -25,9 +25,6 @@ abbrev pub limit : ℕ
 limit = 4 * 10 ^ 18
 
 -- ---- instants as Rust's `Instant`: plain numbers
-unfoldable pub checkedDurationSince : ℕ → ℕ → OptionDuration
-checkedDurationSince later earlier = cond (ltb later earlier) Duration.None (Duration.Some (later - earlier))
-
 -- 0 where the instant is the earlier one
 abbrev pub saturatingDurationSince : ℕ → ℕ → ℕ
 saturatingDurationSince later earlier = later - earlier

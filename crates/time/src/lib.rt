@@ -64,16 +64,6 @@ impl OptionDuration {
     }
 }
 
-// Rust's `Instant::checked_duration_since`.
-pub fn checked_duration_since(later: u64, earlier: u64) -> OptionDuration
-    ensures { λ r. ⌜ r ≡ Time.checkedDurationSince later earlier ⌝ }
-{
-    if later < earlier {
-        return OptionDuration::None;
-    }
-    OptionDuration::Some(later - earlier)
-}
-
 // Rust's `Instant::saturating_duration_since`, which a difference of instants is too: an early instant gives 0.
 pub fn saturating_duration_since(later: u64, earlier: u64) -> u64
     ensures { λ r. ⌜ r ≡ Time.saturatingDurationSince later earlier ⌝ }

@@ -11,7 +11,7 @@ use lib.ListN.{length}
 use lib.Ieee as Ieee
 use lib.Ieee.{Float, le, lt, neg}
 use Rattle.float_order.specs.Binary64 as F
-use Rattle.float_order.specs.Binary64.{sub, mul, div, lit}
+use Rattle.float_order.specs.Binary64.{sub, mul, div, lit, one}
 use Rattle.float_order.specs.Order.{ordered, le-trans}
 use Rattle.float_order.specs.Range.{Within, nat, in-ordered, in-closed, lit-in, add-in, mul-in, absorb}
 use Rattle.float_order.specs.Interval.{floats}
@@ -32,8 +32,8 @@ use Rattle.trendline.specs.declared.OptionOveruse.the-variants as Over
 use Rattle.trendline.specs.declared.Delays.{Delays}
 use Rattle.trendline.specs.declared.Judgement.{Judgement}
 use Rattle.trendline.specs.declared.TrendlineEstimator.{TrendlineEstimator}
-use Rattle.trendline.specs.Cases.{cases}
-use Rattle.trendline.specs.Trendline.{smoothingCoef, one, place, add, accumulate, addToHistory, linearFit, modifiedTrend, withTrend, overUseTimeThreshold, nextOveruse, overusing, judge, detect, new, addDelayObservation}
+use Rattle.bool_laws.specs.Bools.{cases}
+use Rattle.trendline.specs.Trendline.{smoothingCoef, place, add, accumulate, addToHistory, linearFit, modifiedTrend, withTrend, overUseTimeThreshold, nextOveruse, overusing, judge, detect, new, addDelayObservation}
 use Rattle.trendline.specs.History.{First, Ascending, placed, insert-length, insert-each, insert-ascending, insert-full-length, insert-full-each, insert-full-ascending}
 use Rattle.trendline.specs.Milliseconds.{time-in, delta-in}
 use Rattle.trendline.specs.Slope.{Bounded, fit, wider, sums-in, slope-in, fit-ordered}

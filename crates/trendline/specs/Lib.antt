@@ -1,7 +1,5 @@
 pub mod Trendline
-pub mod Constants
 pub mod Rows
-pub mod Cases
 pub mod Threshold
 pub mod History
 pub mod Term

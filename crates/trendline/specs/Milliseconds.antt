@@ -7,7 +7,7 @@ use lib.Dec.{T, ltb}
 use lib.IntN.{pos}
 use lib.Ieee.{Float, binary64, ofInt, le, neg}
 use Rattle.float_order.specs.Binary64 as F
-use Rattle.float_order.specs.Binary64.{mul, div}
+use Rattle.float_order.specs.Binary64.{mul, div, thousand}
 use Rattle.float_order.specs.Order.{le-trans, neg-le, neg-neg}
 use Rattle.float_order.specs.Ops.{zero₊, mul-neg-l, mul-nonneg}
 use Rattle.float_order.specs.Range.{In, Within, nat, in-finite, in-closed, sub-in}
@@ -23,8 +23,8 @@ use Rattle.time.specs.declared.TimeDelta.{TimeDelta}
 use Rattle.time.specs.declared.TimeDelta.the-variants.{NegativeInfinity, Negative, Positive, PositiveInfinity}
 use Rattle.arrival_group.specs.Laws.{AtMost}
 use Rattle.arrival_group.specs.declared.InterGroupDelayDelta.{InterGroupDelayDelta}
-use Rattle.trendline.specs.Cases.{cases}
-use Rattle.trendline.specs.Trendline.{thousand, delayDelta, timeSince}
+use Rattle.bool_laws.specs.Bools.{cases}
+use Rattle.trendline.specs.Trendline.{delayDelta, timeSince}
 use Rattle.trendline.specs.Slope.{wider, nonneg-within}
 
 -- ---- ms of a length of time

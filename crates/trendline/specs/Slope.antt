@@ -23,7 +23,7 @@ use Rattle.float_order.specs.Interval.{floats}
 use Rattle.float_order.specs.Exact.{le-add}
 use Rattle.float_order.specs.Dyadic.{two^}
 use Rattle.trendline.specs.declared.Fit.{Fit}
-use Rattle.trendline.specs.Cases.{cases}
+use Rattle.bool_laws.specs.Bools.{cases}
 use Rattle.trendline.specs.Trendline.{totalFrom, total, withPoint, sumsFrom, sums, average, linearFit}
 use Rattle.trendline.specs.History.{First}
 use Rattle.trendline.specs.Term.{Scaled, scaled-wider, scaled-add, scaled-div, term}

@@ -17,7 +17,7 @@ use Rattle.float_order.specs.Casts.{ofInt-in, ofInt-mono}
 use Rattle.float.specs.Float as Float
 use Rattle.float.specs.MinMax.{min-in, clamp-in, abs-nonneg}
 use Rattle.trendline.specs.declared.Delays.{Delays}
-use Rattle.trendline.specs.Cases.{cases}
+use Rattle.bool_laws.specs.Bools.{cases}
 use Rattle.trendline.specs.Trendline.{maxAdoptOffsetMs, thresholdGain, kUp, kDown, gain, moved, threshold, modifiedTrend}
 
 abbrev pub ThresholdIn : Float → Type 0

@@ -8,8 +8,10 @@ use lib.IntN.{pos}
 use lib.ListN.{getD, take, drop, replicate}
 use lib.Ieee as Ieee
 use lib.Ieee.{Float, nan, binary64, ofInt, neg}
+use mathlib.Core.Path.{_≡_, refl}
 use Rattle.float_order.specs.Binary64 as F
-use Rattle.float_order.specs.Binary64.{sub, mul, div, lit}
+use Rattle.float_order.specs.Binary64.{sub, mul, div, lit, decimal, one, thousand}
+use Rattle.float_order.specs.Interval.{floats}
 use Rattle.float.specs.Float as Float
 use Rattle.time.specs.Time as Time
 use Rattle.time.specs.Time.{instantOr, saturatingDurationSince}
@@ -31,8 +33,14 @@ use Rattle.trendline.specs.declared.TrendlineEstimator.{TrendlineEstimat
 abbrev pub smoothingCoef : Float
 smoothingCoef = lit 0x3fec_cccc_cccc_cccd
 
+pub smoothingCoef-is : smoothingCoef ≡ decimal 9 10
+smoothingCoef-is = unfold floats in refl
+
 abbrev pub overUseThresholdDefaultMs : Float
 overUseThresholdDefaultMs = lit 0x4029_0000_0000_0000
+
+pub overUseThresholdDefaultMs-is : overUseThresholdDefaultMs ≡ decimal 125 10
+overUseThresholdDefaultMs-is = unfold floats in refl
 
 abbrev pub overUseTimeThreshold : ℕ
 overUseTimeThreshold = 10000000
@@ -40,14 +48,26 @@ overUseTimeThreshold = 10000000
 abbrev pub maxAdoptOffsetMs : Float
 maxAdoptOffsetMs = lit 0x402e_0000_0000_0000
 
+pub maxAdoptOffsetMs-is : maxAdoptOffsetMs ≡ decimal 15 1
+maxAdoptOffsetMs-is = unfold floats in refl
+
 abbrev pub thresholdGain : Float
 thresholdGain = lit 0x4010_0000_0000_0000
+
+pub thresholdGain-is : thresholdGain ≡ decimal 4 1
+thresholdGain-is = unfold floats in refl
 
 abbrev pub kUp : Float
 kUp = lit 0x3f81_d14e_3bcd_35a8
 
+pub kUp-is : kUp ≡ decimal 87 10000
+kUp-is = unfold floats in refl
+
 abbrev pub kDown : Float
 kDown = lit 0x3fa3_f7ce_d916_872b
+
+pub kDown-is : kDown ≡ decimal 39 1000
+kDown-is = unfold floats in refl
 
 abbrev pub minDelayCount : ℕ
 minDelayCount = 60
@@ -56,23 +76,29 @@ abbrev pub maxDelayCount : ℕ
 maxDelayCount = 1000
 
 -- without a name in the Rust
-abbrev pub one : Float
-one = lit 0x3ff0_0000_0000_0000
-
-abbrev pub thousand : Float
-thousand = lit 0x408f_4000_0000_0000
-
 abbrev pub windowSize : Float
 windowSize = lit 0x4034_0000_0000_0000
+
+pub windowSize-is : windowSize ≡ decimal 20 1
+windowSize-is = unfold floats in refl
 
 abbrev pub maxTimeDeltaMs : Float
 maxTimeDeltaMs = lit 0x4059_0000_0000_0000
 
+pub maxTimeDeltaMs-is : maxTimeDeltaMs ≡ decimal 100 1
+maxTimeDeltaMs-is = unfold floats in refl
+
 abbrev pub minThresholdMs : Float
 minThresholdMs = lit 0x4018_0000_0000_0000
 
+pub minThresholdMs-is : minThresholdMs ≡ decimal 6 1
+minThresholdMs-is = unfold floats in refl
+
 abbrev pub maxThresholdMs : Float
 maxThresholdMs = lit 0x4082_c000_0000_0000
+
+pub maxThresholdMs-is : maxThresholdMs ≡ decimal 600 1
+maxThresholdMs-is = unfold floats in refl
 
 -- ---- the history
 -- how many of the first n times stand before a new one: equal times do

@@ -15,17 +15,14 @@ abbrev μ-loop : tie.MeasureT-loop
 μ-loop s at n v₀ i₀ v i = i
 
 -- what v is below after a turn
-below : (c : tie.After-byte Inv-loop μ-loop) → c .before .before .loop .v * 256 + c .byte .result < 256 ^ (c .before .before .before .before .args .n - (c .before .before .loop .i - 1))
-below c = more-below _ _ _ (c .byte .result) (c .before .loop-test .taken) (c .before .before .loop .inv .0) (c .before .before .loop .inv .1 .1) (omega arith)
+below : (c : tie.After-read-u8 Inv-loop μ-loop) → c .before .before .loop .v * 256 + c .read-u8 .result < 256 ^ (c .before .before .before .before .args .n - (c .before .before .loop .i - 1))
+below c = more-below _ _ _ (c .read-u8 .result) (c .before .loop-test .taken) (c .before .before .loop .inv .0) (c .before .before .loop .inv .1 .1) (omega arith)
 
 loop-holds : tie.Need-loop-holds Inv-loop μ-loop
 unfolding le
 loop-holds c =
     let z : c .before .args .n - c .before .args .n ≡ 0 = omega arith in
     rw z (omega arith)
-
-sub-i : tie.Need-sub-i Inv-loop μ-loop
-sub-i c = omega arith
 
 mul-v : tie.Need-mul-v Inv-loop μ-loop
 mul-v c =
@@ -35,22 +32,13 @@ mul-v c =
       wide (c .before .before .before .args .n - (c .before .loop .i - 1)) (omega arith),
     )
 
-byte-requires : tie.Need-byte-requires Inv-loop μ-loop
-byte-requires c κs = search needs
-
-cast-v : tie.Need-cast-v Inv-loop μ-loop
-cast-v c = omega arith
-
 add-v : tie.Need-add-v Inv-loop μ-loop
 add-v c = omega (arith, below c, wide (c .before .before .before .before .args .n - (c .before .before .loop .i - 1)) (omega arith))
-
-loop-less : tie.Need-loop-less Inv-loop μ-loop
-loop-less c = omega arith
 
 loop-again : tie.Need-loop-again Inv-loop μ-loop
 loop-again c = (
   omega arith,
-  (rw (c .byte .ensures) (more _ _ _ _ _ (c .before .loop-test .taken) (c .before .before .loop .inv .0) (c .before .before .loop .inv .1 .0)), below c),
+  (rw (c .read-u8 .ensures) (more _ _ _ _ _ (c .before .loop-test .taken) (c .before .before .loop .inv .0) (c .before .before .loop .inv .1 .0)), below c),
 )
 
 returns : tie.Need-returns Inv-loop μ-loop
@@ -66,11 +54,12 @@ number-spec =
     Inv-loop
     μ-loop
     loop-holds
-    sub-i
+    (λ c. search needs)
     mul-v
-    byte-requires
-    cast-v
+    (λ c. search needs)
+    (λ c κs. search needs)
+    (λ c. search needs)
     add-v
-    loop-less
+    (λ c. search needs)
     loop-again
     returns)

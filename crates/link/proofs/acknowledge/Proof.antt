@@ -1,11 +1,10 @@
--- What is left of the packets gives the estimator and the answer of all; from where the estimator has numbers, they take the rest.
+-- What is left of the packets gives the estimator and the answer of all.
 use Prim.Native.Nat.{_≤_, _-_}
 use native.Mathlib.Omega.{arith}
-use mathlib.Core.Path.{refl, sym, _∙_}
+use mathlib.Core.Path.{refl, _∙_}
 use lib.ListN.{length}
 use borrow.Author.Needs.{needs}
-use Rattle.acked_bitrate_estimator.specs.Known.{known-estimator}
-use Rattle.link.proofs.Laws.{Left, left-rest, left-turn, remotes-end, sizes-end}
+use Rattle.link.proofs.Laws.{Left, left-turn, remotes-end, sizes-end}
 use Rattle.link.proofs.acknowledge.Statement.{statement}
 use Rattle.link.proofs.acknowledge.Tie as tie
 
@@ -21,18 +20,14 @@ loop-holds c = (omega arith, record { acked = refl; sums = refl })
 returns : tie.Need-returns Inv-loop μ-loop
 returns c = sizes-end (c .before .before .loop .inv .1) (c .if1 .taken)
 
-returns-2 : tie.Need-returns-2 Inv-loop μ-loop
-returns-2 c =
-    let rest = c .before .before .acknowledge-known .ensures in
-    left-rest (c .before .before .before .before .before .before .before .before .before .before .before .loop .inv .1) (known-estimator (sym (c .before .before .before .before .before .before .before .before .known .ensures) ∙ c .before .before .before .before .before .before .taken .given .1)) (rest .0) (rest .1)
-
 loop-again : tie.Need-loop-again Inv-loop μ-loop
-loop-again c = (omega arith, left-turn (c .before .before .before .before .before .before .before .before .before .before .before .loop .inv .1) (omega arith) (omega arith) (c .before .before .before .data-size .ensures) (c .before .before .update .ensures) (c .bytes-in .ensures))
+loop-again c =
+    (omega arith, left-turn (c .before .before .before .before .before .before .before .before .before .loop .inv .1) (omega arith) (omega arith) (c .before .before .before .before .data-size .ensures) (c .before .before .copied .ensures ∙ c .before .before .before .update .ensures) (c .bytes-in .ensures))
 
-returns-3 : tie.Need-returns-3 Inv-loop μ-loop
-returns-3 c = remotes-end (c .before .loop .inv .1) (c .loop-test .left)
+returns-2 : tie.Need-returns-2 Inv-loop μ-loop
+returns-2 c = remotes-end (c .before .loop .inv .1) (c .loop-test .left)
 
 pub acknowledge-spec : {M : Type 1} → statement M
 acknowledge-spec =
     tie.close
-    (tie.spec Inv-loop μ-loop loop-holds returns (λ c κs. search needs) (λ c. search needs) (λ c. search needs) (λ c. search needs) (λ c. search needs) (λ c. search needs) (λ c. search needs) (λ c. search needs) (λ c. search needs) (λ c. search needs) (λ c κs. search needs) returns-2 (λ c. search needs) (λ c. search needs) (λ c. search needs) (λ c. search needs) (λ c. search needs) (λ c κs. search needs) (λ c κs. search needs) (λ c κs. search needs) (λ c. search needs) (λ c. search needs) loop-again returns-3)
+    (tie.spec Inv-loop μ-loop loop-holds returns (λ c. search needs) (λ c. search needs) (λ c. search needs) (λ c. search needs) (λ c κs. search needs) (λ c κs. search needs) (λ c κs. search needs) (λ c κs. search needs) (λ c. search needs) (λ c. search needs) loop-again returns-2)

@@ -4,6 +4,7 @@ use mathlib.Core.Path.{_≡_, refl}
 use mathlib.Core.List.{List, [], _∷_}
 use native.Mathlib.Omega.{arith}
 use lib.ListN.{getD}
+use borrow.Author.Tests.{lt-ltb}
 use borrow.Author.Needs.{needs}
 use Rattle.listing_line.specs.ListingLine as Line
 use Rattle.listing_line.proofs.digit.Statement.{statement}
@@ -32,7 +33,10 @@ character (suc (suc (suc (suc (suc (suc (suc (suc (suc (suc (suc (suc (suc (suc 
 character (suc (suc (suc (suc (suc (suc (suc (suc (suc (suc (suc (suc (suc (suc (suc (suc d)))))))))))))))) h = absurd (omega arith)
 
 returns : tie.Need-returns
-returns c = search (needs, character)
+returns c = rw (lt-ltb (c .before .args .d) 10 (omega arith))
+
+returns-2 : tie.Need-returns-2
+returns-2 c = character (c .before .before .before .args .d) (omega arith)
 
 pub digit-spec : {M : Type 1} → statement M
-digit-spec = tie.close (tie.spec (λ c. search needs) returns)
+digit-spec = tie.close (tie.spec (λ c. search needs) returns (λ c. search needs) returns-2)

@@ -24,7 +24,7 @@ cast-digit : tie.Need-cast-digit Inv-loop μ-loop
 cast-digit c = omega (arith, mod-lt (c .before .loop .rest) {m = c .before .before .before .args .b} (omega arith))
 
 digit-requires : tie.Need-digit-requires Inv-loop μ-loop
-digit-requires c κs = omega (arith, mod-lt (c .before .loop .rest) {m = c .before .before .before .args .b} (omega arith))
+digit-requires c κs = (mod-lt (c .before .loop .rest) {m = c .before .before .before .args .b} (omega arith), omega arith)
 
 loop-again : tie.Need-loop-again Inv-loop μ-loop
 loop-again c =

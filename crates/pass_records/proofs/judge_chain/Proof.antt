@@ -5,8 +5,7 @@ use mathlib.Core.List.{List}
 use native.Mathlib.Omega.{arith}
 use denote.Ref.{now}
 use borrow.Author.Needs.{needs}
-use Rattle.pass_records.specs.PassRecords.{follows, onward, chainFrom, judgeOne, judgeAlong}
-use Rattle.pass_records.specs.Record.{record-slice, successor-record}
+use Rattle.pass_records.specs.PassRecords.{recordAt, successor, onward, chainFrom, judgeOne, judgeAlong}
 use Rattle.pass_records.specs.Laws.{Followed, followed, judge-step}
 use Rattle.pass_records.specs.declared.Following.{Following}
 use Rattle.pass_records.specs.declared.Judged.{Judged}
@@ -22,22 +21,21 @@ abbrev μ-loop : tie.MeasureT-loop
 loop-holds : tie.Need-loop-holds Inv-loop μ-loop
 loop-holds c = (omega arith, (omega arith, refl))
 
--- what the record's own bytes say, the file says
-told : (c : tie.After-successor Inv-loop μ-loop) → c .successor .result ≡ follows (now (c .before .before .before .before .args .file)) (c .before .before .before .before .args .last) (c .before .before .loop .k)
-told c = c .successor .ensures ∙ rw (record-slice _ (c .before .before .loop .k) _ _ refl refl) (successor-record _ _ _)
+told : (c : tie.After-successor Inv-loop μ-loop) → c .successor .result ≡ successor (recordAt (now (c .before .before .before .before .args .file)) (c .before .before .loop .k)) (c .before .before .before .before .args .last) (c .before .before .loop .k)
+told c = rw (← c .before .record-at .ensures) (c .successor .ensures)
 
 -- one turn, by what follows the record
 turn :
     (file : List ℕ) (last k : ℕ) (whole : Judged) (t : Following) {r : Following} →
     (0 < k) × ((k ≤ last) × (judgeAlong file last (chainFrom file last k) ≡ whole)) →
-    r ≡ follows file last k →
+    r ≡ successor (recordAt file k) last k →
     r ≡ t →
     judgeOne t (judgeAlong file last (onward t (chainFrom file last))) ≡ whole
 turn file last k whole t i e f = sym (judge-step file last k t (i .1 .0) (sym e ∙ f)) ∙ i .1 .1
 
 -- the record that follows, where one does
 after : (c : tie.After-n Inv-loop μ-loop)
-    → Followed (now (c .before .before .before .before .before .before .args .file)) (c .before .before .before .before .before .before .args .last) (c .before .before .before .before .loop .k) (c .n .given .0 .0)
+    → Followed (recordAt (now (c .before .before .before .before .before .before .args .file)) (c .before .before .before .before .loop .k)) (c .before .before .before .before .before .before .args .last) (c .before .before .before .before .loop .k) (c .n .given .0 .0)
 after c = followed _ _ _ _ (sym (told (c .before .before)) ∙ c .n .given .1)
 
 loop-less : tie.Need-loop-less Inv-loop μ-loop
@@ -59,23 +57,4 @@ returns-3 c = turn _ _ _ _ _ (c .before .before .before .before .loop .inv) (tol
 pub judge-chain-spec : {M : Type 1} → statement M
 judge-chain-spec =
     tie.close
-    (tie.spec
-    Inv-loop
-    μ-loop
-    loop-holds
-    (λ c. search needs)
-    (λ c. search needs)
-    (λ c. search needs)
-    (λ c. search needs)
-    (λ c. search needs)
-    (λ c. search needs)
-    (λ c κs. search needs)
-    (λ c. search needs)
-    loop-less
-    loop-again
-    (λ c. search needs)
-    returns
-    (λ c. search needs)
-    returns-2
-    (λ c. search needs)
-    returns-3)
+    (tie.spec Inv-loop μ-loop loop-holds (λ c κs. search needs) (λ c κs. search needs) (λ c. search needs) loop-less loop-again (λ c. search needs) returns (λ c. search needs) returns-2 (λ c. search needs) returns-3)

@@ -1,0 +1,1 @@
+// What tests tell and what they choose: mathematics for specs and proofs, there is no code.
