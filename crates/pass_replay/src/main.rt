@@ -3,7 +3,6 @@
 // Prints how many files and how many of them differ, how many packets are linked in those that are listed, and the first file that differs.
 use cases::Counts;
 use libc::STDIN_FILENO;
-use pass_file::Listed;
 
 // What the output holds before a file is listed.
 const UNWRITTEN: u8 = 0xa5;
@@ -33,11 +32,7 @@ fn holds(out: &[u8], text: &[u8]) -> bool {
 
 fn agrees(file: &[u8], out: &mut [u8], text: &[u8], expected: u32) -> bool {
     let listed = pass_file::list(file, out);
-    let same = (listed.number() == expected as u64) & holds(out, text);
-    if let Listed::Listing(bytes) = listed {
-        return same & (bytes == text.len());
-    }
-    same & (text.len() == 0)
+    (listed.number() == expected as u64) & (listed.bytes() == text.len()) & holds(out, text)
 }
 
 fn read_header(header: &[u8]) -> Header {
