@@ -19,7 +19,7 @@ use Rattle.link.specs.Link.{Judgement, firstNoInOrder, judgeReport, judged, rep
 use Rattle.link.specs.Laws.{in-order-refused, in-order-taken, judged-number, judged-refused, judged-taken, report-ordered, report-refused}
 use Rattle.link.specs.declared.Judged.{Judged}
 use Rattle.pass_file.specs.Judged.{JudgesReport, linkOf, reportOfFirst}
-use Rattle.pass_file.specs.PassFile.{KeptLengths, mostWaiting}
+use Rattle.waiting_packets.specs.WaitingPackets.{KeptLengths, mostWaiting}
 
 -- ---- the judgement
 module _ (acked : AckedBitrateEstimator) (s : Report) (j : Judged) {number : ℕ} (e : judged j ≡ judgeReport acked s) (en : number ≡ numberOr0 (j .refusal)) where

@@ -1,10 +1,9 @@
 -- Document 01, pass file and program: the calls that a pass file makes, the lines of their run, and the answer to a file.
 use Prim.Native.Nat.{ℕ, zero, suc}
 use Prim.Native.Char.{code}
-use mathlib.Core.Path.{_≡_}
 use mathlib.Core.Bool.{cond}
 use mathlib.Core.List.{List, [], _∷_, _++_, map}
-use lib.Dec.{eqb, leb, ltb}
+use lib.Dec.{eqb, leb}
 use lib.ListN.{length, drop}
 use lib.Ieee.{binary64, ofBits, toBits}
 use Rattle.bandwidth.specs.Bandwidth.{rate, bps}
@@ -18,7 +17,6 @@ use Rattle.questions.specs.Questions.{report-of}
 use Rattle.link_state.specs.declared.Link.{Link}
 use Rattle.link.specs.Link as L
 use Rattle.link.specs.Link.{Outcome, refusal}
-use Rattle.receive_order.specs.ReceiveOrder.{mostPackets}
 use Rattle.link_runs.specs.Statement.{Call, call, report, timeout}
 use Rattle.pass_records.specs.PassRecords as Records
 use Rattle.pass_records.specs.PassRecords.{recordAt, kind, flag, size, sequence, send, remote, receive, probeBits, chain, judge, number}
@@ -129,16 +127,3 @@ outputUnless (suc n) text out = out
 
 unfoldable pub output : List ℕ → List ℕ → List ℕ
 output file out = outputUnless (firstNo file (length out)) (listing file) out
-
--- ---- the packets that are kept: of a report with more than 1,025 any 1,025 give the same answer
-abbrev pub mostWaiting : ℕ
-mostWaiting = suc mostPackets
-
--- how many are kept after one more
-abbrev pub oneMore : ℕ → ℕ
-oneMore n = cond (ltb n mostWaiting) (suc n) n
-
--- the five lists have room for them
-abbrev pub KeptLengths : List ℕ → List ℕ → List ℕ → List ℕ → List ℕ → Type 0
-KeptLengths sequences sizes sends remotes receives =
-    (length sequences ≡ mostWaiting) × (length sizes ≡ mostWaiting) × (length sends ≡ mostWaiting) × (length remotes ≡ mostWaiting) × (length receives ≡ mostWaiting)

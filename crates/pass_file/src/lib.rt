@@ -1,10 +1,11 @@
 // Document 01, pass file and program: the listing of a pass file, a line for each call of a link, written into a lent buffer.
 ghost use mathlib.Core.Path.{_≡_};
 ghost use Prim.Native.Nat.{_≤_};
-ghost use lib.ListN.{length, set, take};
+ghost use lib.ListN.{length, take};
 ghost use Rattle.pass_records.specs.PassRecords as Records;
 ghost use Rattle.pass_records.specs.declared.Judged.the-variants.{Linked};
 ghost use Rattle.listing_line.specs.ListingLine.{putLine, placeAfter, Wrote};
+ghost use Rattle.waiting_packets.specs.WaitingPackets.{KeptLengths, mostWaiting};
 ghost use Rattle.pass_file.specs.PassFile as PassFile;
 ghost use Rattle.questions.specs.Questions.{firstNo, ofTimeout};
 ghost use Rattle.pass_file.specs.Judged.{JudgesReport, reportOfFirst};
@@ -18,9 +19,6 @@ use pass_records::Judged;
 
 // The least output that a file's listing is written to.
 pub const LEAST_OUTPUT: usize = 65_536;
-
-// How many waiting packets are kept: one more than a report may have. With more than that the report is refused, whatever they are.
-const MOST_WAITING: usize = receive_order::MOST_PACKETS + 1;
 
 // A listing of so many bytes, or the first question that the file fails.
 pub enum Listed {
@@ -96,11 +94,11 @@ fn judge_report(
     probe: OptionBitrate,
     moment: u64,
 ) -> JudgedReport
-    requires { ⌜ n ≤ PassFile.mostWaiting ⌝ }
-    requires { ⌜ PassFile.KeptLengths (now sequences) (now sizes) (now sends) (now remotes) (now receives) ⌝ }
+    requires { ⌜ n ≤ mostWaiting ⌝ }
+    requires { ⌜ KeptLengths (now sequences) (now sizes) (now sends) (now remotes) (now receives) ⌝ }
     ensures { λ r. ⌜ JudgesReport acked (reportOfFirst n (now (sequences .entry)) (now (sizes .entry)) (now (sends .entry)) (now (remotes .entry)) (now (receives .entry)) probe moment) (r .number) (r .acked)
         (take n (now (sends .exit))) (take n (now (remotes .exit))) (take n (now (receives .exit))) ⌝ }
-    ensures { λ _. ⌜ PassFile.KeptLengths (now (sequences .entry)) (now (sizes .exit)) (now (sends .exit)) (now (remotes .exit)) (now (receives .exit)) ⌝ }
+    ensures { λ _. ⌜ KeptLengths (now (sequences .entry)) (now (sizes .exit)) (now (sends .exit)) (now (remotes .exit)) (now (receives .exit)) ⌝ }
 {
     receive_order::put_in_order(n, sequences, sizes, sends, remotes, receives);
     let judged = link::judge_report(
@@ -165,44 +163,6 @@ fn put_called(
     )
 }
 
-// ---- the packets that wait
-fn put(list: &mut [u64], i: usize, x: u64)
-    ensures { λ _. ⌜ now (list .exit) ≡ set (now (list .entry)) i x ⌝ }
-{
-    if i < list.len() {
-        list[i] = x;
-    }
-}
-
-// A packet's record joins the n that wait.
-fn wait(
-    bytes: &[u8],
-    n: usize,
-    sequences: &mut [u64],
-    sizes: &mut [u64],
-    sends: &mut [u64],
-    remotes: &mut [u64],
-    receives: &mut [u64],
-) -> usize
-    requires { ⌜ n ≤ PassFile.mostWaiting ⌝ }
-    ensures { λ r. ⌜ r ≡ PassFile.oneMore n ⌝ }
-    ensures { λ _. ⌜ now (sequences .exit) ≡ set (now (sequences .entry)) n (Records.sequence (now (bytes .entry))) ⌝ }
-    ensures { λ _. ⌜ now (sizes .exit) ≡ set (now (sizes .entry)) n (Records.size (now (bytes .entry))) ⌝ }
-    ensures { λ _. ⌜ now (sends .exit) ≡ set (now (sends .entry)) n (Records.send (now (bytes .entry))) ⌝ }
-    ensures { λ _. ⌜ now (remotes .exit) ≡ set (now (remotes .entry)) n (Records.remote (now (bytes .entry))) ⌝ }
-    ensures { λ _. ⌜ now (receives .exit) ≡ set (now (receives .entry)) n (Records.receive (now (bytes .entry))) ⌝ }
-{
-    put(sequences, n, pass_records::sequence(bytes));
-    put(sizes, n, pass_records::size(bytes) as u64);
-    put(sends, n, pass_records::send(bytes));
-    put(remotes, n, pass_records::remote(bytes));
-    put(receives, n, pass_records::receive(bytes));
-    if n < MOST_WAITING {
-        return n + 1;
-    }
-    n
-}
-
 // ---- the listing
 // The lines along the chain of a linked file. A link that a run reaches is in range, so question 1 is not put; its two parts are kept
 // apart, so that a call copies only what it changes.
@@ -217,7 +177,7 @@ fn list_chain(
     link: Link,
 ) -> usize
     requires { ⌜ (Records.judge (now file) ≡ Linked) × (PassFile.leastOutput ≤ length (now out)) × (link ≡ PassFile.first) ⌝ }
-    requires { ⌜ PassFile.KeptLengths (now sequences) (now sizes) (now sends) (now remotes) (now receives) ⌝ }
+    requires { ⌜ KeptLengths (now sequences) (now sizes) (now sends) (now remotes) (now receives) ⌝ }
     ensures { λ r. ⌜ Wrote (now (out .entry)) 0 (PassFile.listing (now (file .entry))) (now (out .exit)) r ⌝ }
 {
     let mut acked = link.acked;
@@ -230,7 +190,7 @@ fn list_chain(
         let kind = pass_records::kind(bytes);
         let now = pass_records::receive(bytes);
         if kind == pass_records::PACKET {
-            n = wait(bytes, n, sequences, sizes, sends, remotes, receives);
+            n = waiting_packets::wait(bytes, n, sequences, sizes, sends, remotes, receives);
         } else if kind == pass_records::REPORT {
             let probe = probe(bytes);
             let judged = judge_report(

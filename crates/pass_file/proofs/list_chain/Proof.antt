@@ -130,4 +130,4 @@ returns c = written (none-left _ _ (c .before .next .ensures) (passed (c .before
 pub list-chain-spec : {M : Type 1} → statement M
 list-chain-spec =
     tie.close
-    (tie.spec Inv-loop μ-loop loop-holds (λ c κs. search needs) (λ c κs. search needs) (λ c κs. search needs) (λ c κs. c .before .before .before .before .before .before .before .before .before .loop .inv .1 .kept .few) (λ c κs. search needs) judge-report-requires (λ c. search needs) (λ c. search needs) part-update-end (λ c. search needs) (λ c. search needs) part-update-end-2 (λ c. search needs) (λ c. search needs) part-update-end-3 (λ c κs. search needs) (λ c κs. search needs) (λ c κs. search needs) (λ c κs. search needs) (λ c κs. search needs) (λ c κs. search needs) (λ c κs. search needs) (λ c κs. search needs) (λ c κs. search needs) (λ c κs. search needs) (λ c κs. search needs) (λ c κs. search needs) (λ c κs. search needs) (λ c κs. search needs) (λ c. search needs) (λ c. lengths (c .before .before) .0) (λ c. lengths (c .before .before) .1) (λ c. lengths (c .before .before) .2) (λ c. lengths (c .before .before) .3) (λ c. lengths (c .before .before) .4) (λ c. lengths (c .before .before) .5) returns loop-less loop-again)
+    (tie.spec Inv-loop μ-loop loop-holds (λ c κs. search needs) (λ c κs. search needs) (λ c κs. search needs) (λ c κs. search needs) (λ c κs. search needs) judge-report-requires (λ c. search needs) (λ c. search needs) part-update-end (λ c. search needs) (λ c. search needs) part-update-end-2 (λ c. search needs) (λ c. search needs) part-update-end-3 (λ c κs. search needs) (λ c κs. search needs) (λ c κs. search needs) (λ c κs. search needs) (λ c κs. search needs) (λ c κs. search needs) (λ c κs. search needs) (λ c κs. search needs) (λ c κs. search needs) (λ c κs. search needs) (λ c κs. search needs) (λ c κs. search needs) (λ c κs. search needs) (λ c κs. search needs) (λ c. search needs) (λ c. lengths (c .before .before) .0) (λ c. lengths (c .before .before) .1) (λ c. lengths (c .before .before) .2) (λ c. lengths (c .before .before) .3) (λ c. lengths (c .before .before) .4) (λ c. lengths (c .before .before) .5) returns loop-less loop-again)

@@ -1,9 +1,9 @@
--- `pass_file::put` meets its contract: past the end there is nothing to set.
+-- `waiting_packets::put` meets its contract: past the end there is nothing to set.
 use mathlib.Core.Path.{sym}
 use lib.Seq.{set-out}
 use borrow.Author.Needs.{needs}
-use Rattle.pass_file.proofs.put.Statement.{statement}
-use Rattle.pass_file.proofs.put.Tie as tie
+use Rattle.waiting_packets.proofs.put.Statement.{statement}
+use Rattle.waiting_packets.proofs.put.Tie as tie
 
 returns-2 : tie.Need-returns-2
 returns-2 c = sym (set-out _ _ _ (c .if1 .left))

@@ -1,9 +1,9 @@
--- `pass_file::wait` meets its contract: each list has its field of record k at place n.
+-- `waiting_packets::wait` meets its contract: each list has its field of the record at place n.
 use native.Mathlib.Numerals.{add-one}
 use borrow.Author.Needs.{needs}
 use borrow.Author.Tests.{lt-ltb, le-ltb}
-use Rattle.pass_file.proofs.wait.Statement.{statement}
-use Rattle.pass_file.proofs.wait.Tie as tie
+use Rattle.waiting_packets.proofs.wait.Statement.{statement}
+use Rattle.waiting_packets.proofs.wait.Tie as tie
 
 returns : tie.Need-returns
 returns c = (simp (lt-ltb _ _ (c .if1 .taken), add-one), (cc, (cc, (cc, (cc, cc)))))

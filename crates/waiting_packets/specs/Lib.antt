@@ -1,0 +1,2 @@
+pub mod WaitingPackets
+pub mod Laws
