@@ -79,22 +79,28 @@ lt-fractions x y p q u v h = lt-of-not-le (λ (g : over y * den x ≤ over x * d
 scaled : (N B m A C U : ℕ) → N * B ≡ m * (A * A) → 4 * U ≡ B * (C * C) → 4 * (N * U) ≡ m * (A * C * (A * C))
 scaled N B m A C U h k = omega (arith, ap (λ (z : ℕ). z * (C * C)) h, ap (λ (z : ℕ). N * z) k)
 
--- o / d is r * w / U, and a / e another fraction: whether it is below, and their sum
-module _ (o d U r w a e : ℕ) (is : o * U ≡ r * w * d) (D : 0 < d) (P : 0 < U) where
+-- o / d is r * w / U
+record Known (o d U r w : ℕ) : Type 0 where
+  is : o * U ≡ r * w * d
+  d-pos : 0 < d
+  U-pos : 0 < U
+
+-- whether another fraction a / e is below, and the sum of the two
+module _ {o d U r w : ℕ} (k : Known o d U r w) (a e : ℕ) where
   lower : a * d < o * e → a * U < r * w * e
-  lower l = lt-of-mul-lt-mul-right d (omega (arith, mul-lt-mul-of-pos-right l P, ap (λ (z : ℕ). z * e) is))
+  lower l = lt-of-mul-lt-mul-right d (omega (arith, mul-lt-mul-of-pos-right l (k .U-pos), ap (λ (z : ℕ). z * e) (k .is)))
 
   higher : o * e < a * d → r * w * e < a * U
-  higher l = lt-of-mul-lt-mul-right d (omega (arith, mul-lt-mul-of-pos-right l P, ap (λ (z : ℕ). z * e) is))
+  higher l = lt-of-mul-lt-mul-right d (omega (arith, mul-lt-mul-of-pos-right l (k .U-pos), ap (λ (z : ℕ). z * e) (k .is)))
 
   sum-below : a * U < r * w * e → (o * e + a * d) * U < 2 * r * (w * (d * e))
-  sum-below l = omega (arith, mul-lt-mul-of-pos-right l D, ap (λ (z : ℕ). z * e) is)
+  sum-below l = omega (arith, mul-lt-mul-of-pos-right l (k .d-pos), ap (λ (z : ℕ). z * e) (k .is))
 
   sum-lower : (s : ℕ) → r ≡ suc s → a * U ≤ s * w * e → (o * e + a * d) * U ≤ (2 * r - 1) * (w * (d * e))
-  sum-lower s t l = let f : 2 * r - 1 ≡ r + s = omega arith in rw f (omega (arith, mul-le-mul-right d l, ap (λ (z : ℕ). z * e) is))
+  sum-lower s t l = let f : 2 * r - 1 ≡ r + s = omega arith in rw f (omega (arith, mul-le-mul-right d l, ap (λ (z : ℕ). z * e) (k .is)))
 
   sum-higher : suc r * w * e ≤ a * U → (2 * r + 1) * (w * (d * e)) ≤ (o * e + a * d) * U
-  sum-higher l = omega (arith, mul-le-mul-right d l, ap (λ (z : ℕ). z * e) is)
+  sum-higher l = omega (arith, mul-le-mul-right d l, ap (λ (z : ℕ). z * e) (k .is))
 
 -- ---- the root in the smallest values, 2 ^ -1074
 -- x has N of them, and sqrt x half of p, rounded up, times 2 ^ (j + 485), where p, of 54 digits, is the whole root of N * 4 ^ 53 / 4 ^ j
@@ -171,6 +177,9 @@ module _ (x : Float) (t : Root x) (z : Float) (held : T (fits binary64 z)) (fine
   is-y : Is y (r * w) (2 ^ 1074)
   is-y = is-of-value y (r * w) (2 ^ 1074) (t .y-is)
 
+  known : Known (over y) (den y) (2 ^ 1074) r w
+  known = record { is = is-y .same; d-pos = den-pos y; U-pos = pow-pos 1074 }
+
   under-z : under z ≡ 0
   under-z = nonneg-under z fine nonneg
 
@@ -185,24 +194,24 @@ module _ (x : Float) (t : Root x) (z : Float) (held : T (fits binary64 z)) (fine
   z-below : T (lt z y) → sumSquared x y z < fourTimes x y z
   z-below h =
       less (over y * den z + over z * den y) (2 ^ 1074) w (den y * den z) (t .m) (t .N) (over x) (den x) (t .x-is) four-n (den-pos x)
-      (under-root (t .m) (t .p) (t .four) (t .is) _ (w * (den y * den z)) W-pos (sum-below (over y) (den y) (2 ^ 1074) r w (over z) (den z) (is-y .same) (den-pos y) (pow-pos 1074) l) odd)
+      (under-root (t .m) (t .p) (t .four) (t .is) _ (w * (den y * den z)) W-pos (sum-below known (over z) (den z) l) odd)
     where
       l : over z * 2 ^ 1074 < r * w * den z
-      l = lower (over y) (den y) (2 ^ 1074) r w (over z) (den z) (is-y .same) (den-pos y) (pow-pos 1074) (lt-fractions z y fine (is-y .fine) under-z (is-y .nonneg) h)
+      l = lower known (over z) (den z) (lt-fractions z y fine (is-y .fine) under-z (is-y .nonneg) h)
 
       odd : t .p % 2 ≡ 1 → (over y * den z + over z * den y) * 2 ^ 1074 ≤ (2 * r - 1) * (w * (den y * den z))
       odd o =
           let s = t .p / 2 in
           let e : r ≡ suc s = omega arith in
-          sum-lower (over y) (den y) (2 ^ 1074) r w (over z) (den z) (is-y .same) (den-pos y) (pow-pos 1074) s e (gap z s (t .j + 1 + 484) fine held under-z (omega (arith, t .low)) (rw e at l))
+          sum-lower known (over z) (den z) s e (gap z s (t .j + 1 + 484) fine held under-z (omega (arith, t .low)) (rw e at l))
 
   z-above : T (lt y z) → fourTimes x y z < sumSquared x y z
   z-above h =
       more (over y * den z + over z * den y) (2 ^ 1074) w (den y * den z) (t .m) (t .N) (over x) (den x) (t .x-is) four-n (den-pos x)
-      (over-root (t .m) (t .p) (t .four) (t .is) _ (w * (den y * den z)) W-pos (sum-higher (over y) (den y) (2 ^ 1074) r w (over z) (den z) (is-y .same) (den-pos y) (pow-pos 1074) g))
+      (over-root (t .m) (t .p) (t .four) (t .is) _ (w * (den y * den z)) W-pos (sum-higher known (over z) (den z) g))
     where
       l : r * w * den z < over z * 2 ^ 1074
-      l = higher (over y) (den y) (2 ^ 1074) r w (over z) (den z) (is-y .same) (den-pos y) (pow-pos 1074) (lt-fractions y z (is-y .fine) fine (is-y .nonneg) under-z h)
+      l = higher known (over z) (den z) (lt-fractions y z (is-y .fine) fine (is-y .nonneg) under-z h)
 
       g : suc r * w * den z ≤ over z * 2 ^ 1074
       g = le-of-suc-le-suc (lt-of-not-le (λ (a : over z * 2 ^ 1074 < suc r * w * den z). not-le-of-lt l (gap z r (t .j + 1 + 484) fine held under-z (omega (arith, t .low)) a)))
