@@ -7,7 +7,7 @@ use lib.Dec.{T}
 use lib.Ieee.{Float, fin, binary64, le, lt, ofBits, fits}
 use lib.Ieee.Bits.{ofBits-fits}
 use lib.Ieee.Fits.{add-fits, mul-fits}
-use Rattle.float_order.specs.Binary64.{add, sub, mul, lit, one}
+use Rattle.float_order.specs.Binary64.{add, sub, mul, lit, decimal, one}
 use Rattle.float_order.specs.Order.{le-trans}
 use Rattle.float_order.specs.Ops.{zero₊}
 use Rattle.float_order.specs.Range.{In, nat, -nat, in-finite, in-wider, in-closed, lit-in, add-in, sub-in, mul-in, square-in}
@@ -32,6 +32,9 @@ pub record Limits (factor L : Float) : Type 0 where
 -- the largest float that is not above 10 ^ 30
 abbrev pub mostVariance : Float
 mostVariance = lit 0x4629_3e59_39a0_8ce9
+
+pub mostVariance-is : mostVariance ≡ decimal 999_999_999_999_999_879_147_136_483_328 1
+mostVariance-is = unfold floats in refl
 
 pub most-variance : T (le mostVariance (nat (10 ^ 30)) && lt (nat (10 ^ 30)) (lit 0x4629_3e59_39a0_8cea))
 most-variance = unfold floats in tt

@@ -1,9 +1,11 @@
 -- How the laws are used: ends are literals, and the checker computes each test.
+use mathlib.Core.Path.{_≡_, refl}
+use mathlib.Core.Bool.{false}
 use Prim.Native.Nat.{ℕ, _+_}
 use native.Mathlib.Omega.{arith}
 use lib.Dec.{T}
 use lib.Ieee.Scale.{finite}
-use lib.Ieee.{Float, binary64, ofBits, le, add, sub, mul}
+use lib.Ieee.{Float, binary64, round, ofBits, le, add, sub, mul}
 use Rattle.float_order.specs.Range.{In, Within, nat, -nat, in-finite, in-wider, lit-in, sub-in, mul-in, add-in, absorb}
 use Rattle.float_order.specs.Interval.{floats, add-at, sub-at, mul-at}
 use Rattle.float_order.specs.Whole.{sub-whole-in, mul-whole-in}
@@ -12,6 +14,9 @@ use Rattle.float_order.specs.Plus.{plus, plus-trans, climb}
 -- 0.85
 abbrev pub factor : Float
 factor = ofBits binary64 0x3feb333333333333
+
+pub factor-is : factor ≡ round binary64 false 85 100
+factor-is = unfold floats in refl
 
 -- a + 0.85 * (x - a), a range written at each operation
 pub moved : (a x : Float) → In (nat 0) (nat 1000) a → In (nat 0) (nat 1000) x

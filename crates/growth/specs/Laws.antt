@@ -84,15 +84,18 @@ pub growth-first : growth 0 ≡ one
 unfolding growth
 growth-first = refl
 
-pub growth-last : growth 1000 ≡ ofBits binary64 0x3ff1_47ae_147a_e148
+abbrev pub lastFactor : Float
+lastFactor = ofBits binary64 0x3ff1_47ae_147a_e148
+
+pub lastFactor-is : lastFactor ≡ round binary64 false 108 100
+unfolding ofBits round
+lastFactor-is = refl
+
+pub growth-last : growth 1000 ≡ lastFactor
 unfolding growth ofBits
 growth-last = refl
 
-pub last-is-rounded : ofBits binary64 0x3ff1_47ae_147a_e148 ≡ round binary64 false 108 100
-unfolding ofBits round
-last-is-rounded = refl
-
-pub growthFactor-in : (ms : ℕ) → In one (ofBits binary64 0x3ff1_47ae_147a_e148) (growthFactor ms)
+pub growthFactor-in : (ms : ℕ) → In one lastFactor (growthFactor ms)
 unfolding growthFactor
 growthFactor-in ms = record {
   low = rw (← growth-first) (growth-mono 0 (min ms 1000) zero-le (omega arith));

@@ -350,13 +350,13 @@ trendline-sound {t} r = record {
 
 pub rate-sound : {c : RateControlState} → T (fits binary64 (c .«min_bitrate» .0)) → T (fits binary64 (c .«max_bitrate» .0)) → RateInRange c → RateControl.Sound c
 rate-sound {c} f g r = record {
-  low-is = same (c .«min_bitrate») 0x40e3_8800_0000_0000 f (r .min-is) (unfold floats in tt);
-  high-is = same (c .«max_bitrate») 0x4202_a05f_2000_0000 g (r .max-is) (unfold floats in tt);
+  low-is = same (c .«min_bitrate») minEstimate f (ofBits-fits binary64 _) (r .min-is) (unfold floats in tt);
+  high-is = same (c .«max_bitrate») maxEstimate g (ofBits-fits binary64 _) (r .max-is) (unfold floats in tt);
   in-range = r .estimate;
 }
   where
-    same : (b : Bitrate) (bits : ℕ) → T (fits binary64 (b .0)) → eq (b .0) (lit bits) ≡ true → T (not (isZero (lit bits))) → b ≡ B.rate (lit bits)
-    same b bits f e n = elim (eq→same binary64 (b .0) (lit bits) f (ofBits-fits binary64 bits) (is-true (eq (b .0) (lit bits)) e)) [
+    same : (b a : Bitrate) → T (fits binary64 (b .0)) → T (fits binary64 (a .0)) → eq (b .0) (a .0) ≡ true → T (not (isZero (a .0))) → b ≡ a
+    same b a f g e n = elim (eq→same binary64 (b .0) (a .0) f g (is-true (eq (b .0) (a .0)) e)) [
       | inl s ↦ ap B.rate s
-      | inr z ↦ absurd (T-not (isZero (lit bits)) n (z .1))
+      | inr z ↦ absurd (T-not (isZero (a .0)) n (z .1))
     ]

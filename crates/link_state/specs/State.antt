@@ -30,7 +30,7 @@ use Rattle.acked_bitrate_estimator.specs.declared.AckedBitrateEstimator.{AckedB
 use Rattle.arrival_group.specs.declared.OptionGroup.{OptionGroup}
 use Rattle.arrival_group.specs.declared.OptionGroup.the-variants as G
 use Rattle.arrival_group.specs.declared.ArrivalGroupAccumulator.{ArrivalGroupAccumulator}
-use Rattle.trendline.specs.Trendline.{minThresholdMs, maxThresholdMs}
+use Rattle.trendline.specs.Trendline.{maxDelayCount, mostTimings, maxOveruseCount, minThresholdMs, maxThresholdMs}
 use Rattle.trendline.specs.declared.History.{History}
 use Rattle.trendline.specs.declared.Delays.{Delays}
 use Rattle.trendline.specs.declared.OptionOveruse.{OptionOveruse}
@@ -48,6 +48,10 @@ use Rattle.link_state.specs.declared.Link.{Link}
 -- other instants and durations: 10^18 + 10^9 ns
 abbrev pub mostNs : ℕ
 mostNs = 10 ^ 18 + 10 ^ 9
+
+-- an elapsed window: 10^10 ns
+abbrev pub mostElapsed : ℕ
+mostElapsed = 10000000000
 
 abbrev pub mostOveruse : ℕ
 mostOveruse = 2 * 10 ^ 18
@@ -119,7 +123,7 @@ ackedIn a =
     && ackedRateIn (a .estimate)
     && within (lit 0) most30 (a .«estimate_var»)
     && sumIn (a .sum) (a .«current_window»)
-    && leb (a .«current_window») 10000000000
+    && leb (a .«current_window») mostElapsed
     && instantIn (a .«last_update»)
 
 -- ---- groups: the times of one are all there, or there is no group, by its type
@@ -146,12 +150,12 @@ allWithin most (x ∷ xs) = within (neg most) most x && allWithin most xs
 
 -- at most 20 timings in order, times within ±10^12 ms, delays within ±10^31
 unfoldable pub historyIn : History → Bool
-historyIn h = leb (h .len) 20 && ascends (neg mostTime) (take (h .len) (h .times)) mostTime && allWithin most31 (take (h .len) (h .delays))
+historyIn h = leb (h .len) mostTimings && ascends (neg mostTime) (take (h .len) (h .times)) mostTime && allWithin most31 (take (h .len) (h .delays))
 
 -- counts within their caps, delays, threshold limits; a previous trend that is no NaN
 unfoldable pub delaysIn : Delays → Bool
 delaysIn d =
-    leb (d .«num_delay_variations») 1000
+    leb (d .«num_delay_variations») maxDelayCount
     && within (neg most30) most30 (d .«accumulated_delay»)
     && within (neg most31) most31 (d .«smoothed_delay»)
     && within minThresholdMs maxThresholdMs (d .«delay_threshold»)
@@ -166,7 +170,7 @@ overuseTimeIn Delta.PositiveInfinity = false
 
 unfoldable pub overuseIn : OptionOveruse → Bool
 overuseIn Over.None = true
-overuseIn (Over.Some o) = leb (o .count) 2 && overuseTimeIn (o .«time_overusing»)
+overuseIn (Over.Some o) = leb (o .count) maxOveruseCount && overuseTimeIn (o .«time_overusing»)
 
 unfoldable pub trendlineIn : TrendlineEstimator → Bool
 trendlineIn t =

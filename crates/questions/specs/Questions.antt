@@ -49,9 +49,18 @@ numberOr0 (Option.Some q) = number q
 abbrev pub startIn : Bitrate → Bool
 startIn start = within start minEstimate maxEstimate
 
+abbrev pub millisecond : ℕ
+millisecond = 1000000
+
+abbrev pub leastWindow : ℕ
+leastWindow = 1000000
+
+abbrev pub mostWindow : ℕ
+mostWindow = 10000000000
+
 -- 3: are both windows whole ms from 1 to 10,000?
 unfoldable pub windowIn : ℕ → Bool
-windowIn w = eqb (w % 1000000) 0 && leb 1000000 w && leb w 10000000000
+windowIn w = eqb (w % millisecond) 0 && leb leastWindow w && leb w mostWindow
 
 unfoldable pub ofOpening : Bitrate → ℕ → ℕ → List Question
 ofOpening start initial window = question 2 (startIn start) ∷ question 3 (windowIn initial && windowIn window) ∷ []
@@ -103,13 +112,16 @@ listsIn sequences sizes sends remotes receives =
 unfoldable pub instantsIn : List ℕ → List ℕ → List ℕ → Bool
 instantsIn sends remotes receives = allAtMost mostInstant sends && allAtMost mostInstant remotes && allAtMost mostInstant receives
 
+abbrev pub leastSize : ℕ
+leastSize = 1
+
 -- 6: is every size at least 1?
 abbrev pub sizesIn : List ℕ → Bool
-sizesIn sizes = allAtLeast 1 sizes
+sizesIn sizes = allAtLeast leastSize sizes
 
 -- 7: is now at most 10^18 and a multiple of 1,000,000?
 unfoldable pub momentIn : ℕ → Bool
-momentIn now = leb now mostInstant && eqb (now % 1000000) 0
+momentIn now = leb now mostInstant && eqb (now % millisecond) 0
 
 -- 8: is a probe, if present, finite and from 0 to 10^14?
 unfoldable pub probeIn : OptionBitrate → Bool

@@ -10,7 +10,7 @@ use lib.Ieee.{Float, nan, inf, fin, binary64, le, fits}
 use lib.Ieee.Bits.{ofBits-fits}
 use lib.Ieee.Fits.{mul-fits}
 use lib.Ieee.Scale.{finite}
-use Rattle.float_order.specs.Binary64.{add, mul, lit, thousand}
+use Rattle.float_order.specs.Binary64.{add, mul, thousand}
 use Rattle.float_order.specs.Order.{ordered, le-refl, le-trans, le-total, le-ordered-l}
 use Rattle.float_order.specs.Ops.{zero₊, mul-ordered}
 use Rattle.float_order.specs.Exact.{le-add}
@@ -44,6 +44,7 @@ use Rattle.rate_control.specs.RateControl.{
   decrease,
   increase,
   increaseLimit,
+  increaseLimitMargin,
   isNearConvergence,
   maxEstimateRatio,
   multiplicativeIncrease,
@@ -185,11 +186,11 @@ unfolding raised additiveIncrease multiplicativeIncrease
 raised-high c since h = chosen (λ (x : Float). T (le (plus (estimate c) 999) x)) (isNearConvergence c) (sum-high (estimate c) _ h) (sum-high (estimate c) _ h)
 
 -- the limit is at least 1.5 times the observed rate; both may be infinite
-le-limit : (x : Float) → T (fits binary64 x) → T (ordered x) → T (le x (add x (lit 0x40c3_8800_0000_0000)))
+le-limit : (x : Float) → T (fits binary64 x) → T (ordered x) → T (le x (add x increaseLimitMargin))
 le-limit nan t p = absurd p
 le-limit (inf true) t p = unfold floats in tt
 le-limit (inf false) t p = unfold floats in tt
-le-limit (fin s m e) t p = le-add binary64 (fin s m e) (lit 0x40c3_8800_0000_0000) t tt (unfold floats in tt) (unfold floats in tt)
+le-limit (fin s m e) t p = le-add binary64 (fin s m e) increaseLimitMargin t tt (unfold floats in tt) (unfold floats in tt)
 
 module _ (c : RateControl) (observed : Bitrate) (now : ℕ) (f : T (finite (observed .0))) (h : Sound c) where
   abbrev Reached : Float → Type 0

@@ -2,21 +2,19 @@
 use mathlib.Core.Path.{_≡_, refl, sym, ap, _∙_, subst}
 use mathlib.Core.Bool.{Bool, true, false, not}
 use Prim.Native.Nat.{ℕ, zero, suc, _+_, _*_, _^_, _<_}
-use native.Mathlib.Nat.{mul-pos, lt-irrefl, zero-mul}
+use native.Mathlib.Nat.{mul-pos, zero-mul}
 use native.Mathlib.Omega.{arith}
 use lib.Dec.{T, T-not, eqb, eqb→eq, ltb→lt}
 use lib.IntN.{ℤ, pos}
-use lib.Pow.{pow-pos}
 use lib.Ieee.{Float, nan, inf, fin, binary64, up, down, div, ofBits, toBits, fits, isNan, eq, lt, le, ne}
-use lib.Ieee.Fits.{eq→eqb, up-pos, down-pos}
-use lib.Ieee.Exact.{HasValue}
+use lib.Ieee.Fits.{eq→eqb, up-pos}
 use lib.Ieee.Bits.{ofBits-toBits}
 use lib.Ieee.Compare.{differs-from-itself}
 use Rattle.float_order.specs.Order.{is-true, is-false, no-nan-ordered, ne-self, lt-left→le}
 use Rattle.float_order.specs.Ops.{zero₊, nonneg-under}
 use Rattle.float_order.specs.Same.{isZero}
-use Rattle.float_order.specs.Bits.{finite-bound, units-of}
-use Rattle.sqrt.specs.Sqrt.{sqrt, rootUnits}
+use Rattle.float_order.specs.Bits.{finite-bound}
+use Rattle.sqrt.specs.Sqrt.{sqrt}
 use Rattle.sqrt.proofs.Equal.{eq-zero}
 
 abbrev zero64 : Float
@@ -109,15 +107,3 @@ in-range x h a b c d =
     let l : T (le zero₊ x) = lt-left→le x zero₊ (no-nan-ordered x (no-nan x a)) tt (rw zero-is at c) in
     let n : ¬ (toBits binary64 x ≡ 0) = λ e. T-not (isZero x) z (subst (λ (y : Float). T (isZero y)) (sym (ap (ofBits binary64) e) ∙ ofBits-toBits binary64 x f) zero-is-zero) in
     (omega arith, below-top x f z l d)
-
--- the root of w units
-positive-root : (s : Bool) (m : ℕ) (e : ℤ) (w : ℕ) → 0 < w → HasValue (fin s m e) false w (2 ^ 1074) → sqrt (fin s m e) ≡ rootUnits w
-unfolding sqrt
-positive-root s zero e w h v = absurd (lt-irrefl 0 (subst (λ (x : ℕ). 0 < x) (sym (v .1) ∙ ap (λ (x : ℕ). x * 2 ^ 1074) (zero-mul (up e)) ∙ zero-mul (2 ^ 1074)) (mul-pos h (down-pos e))))
-positive-root true (suc m) e w h v = absurd (subst T (v .0) tt)
-positive-root false (suc m) e w h v = ap rootUnits (units-of false (suc m) e w (2 ^ 1074) w (pow-pos 1074) (v .1) refl)
-
-pub root-at : (x : Float) (w : ℕ) → 0 < w → HasValue x false w (2 ^ 1074) → sqrt x ≡ rootUnits w
-root-at nan w h v = absurd v
-root-at (inf s) w h v = absurd v
-root-at (fin s m e) w h v = positive-root s m e w h v

@@ -1,20 +1,21 @@
 -- When two floats are equal: a zero with any zero, a NaN with none, and any other float by its bit pattern.
 use mathlib.Core.Path.{_≡_, refl, sym, ap, _∙_, subst}
 use mathlib.Core.Logic.{inl, inr}
-use mathlib.Core.Bool.{Bool, true, false, not, _||_, Bool·beq}
+use mathlib.Core.Bool.{Bool, false, not, _||_, Bool·beq}
 use Prim.Native.Nat.{ℕ, suc, _+_, _-_, _*_, _/_, _%_, _^_, _≤_, _<_}
 use native.Mathlib.Nat.{mul-pos, zero-mul, eq-of-mul-eq-mul-right}
 use native.Mathlib.Omega.{arith}
-use lib.Dec.{T, eqb, eqb→eq, ltb→lt}
+use lib.Dec.{T, eqb, eqb→eq}
 use lib.IntN.{ℤ}
 use lib.Pow.{pow-pos}
 use lib.Ieee.{Float, nan, inf, fin, binary64, up, down, ofBits, toBits, fits, isNan, eq, le, level}
-use lib.Ieee.Fits.{and-i, and-l, eq→eqb, up-pos, down-pos}
+use lib.Ieee.Fits.{and-i, and-l, eq→eqb, down-pos}
 use lib.Ieee.Bits.{ofBits-toBits, toBits-ofBits, ofBits-fits, nanBits-is}
-use lib.Ieee.Positive.{positive, positive-of-value}
+use lib.Ieee.Positive.{positive-of-value}
 use Rattle.float_order.specs.Order.{or-r, le-refl, le-antisym, no-nan-ordered}
 use Rattle.float_order.specs.Same.{isZero, eq→same}
 use Rattle.float_order.specs.Bits.{high-value, no-nan-bits}
+use Rattle.sqrt.specs.Laws.{positive-no-zero}
 use Rattle.bool_laws.specs.Bools.{same-holds}
 
 pub eq-nan : (d : Float) → eq d nan ≡ false
@@ -44,12 +45,6 @@ eq-zero (fin t n k) s e = same-holds (level t a s b) (eqb (n * up k) 0) (λ h. e
 
     all : n * up k ≡ 0 → T (level t a s b)
     all q = let z : a ≡ 0 = ap (λ (x : ℕ). x * down e) q ∙ zero-mul (down e) in and-i (eqb a b) (Bool·beq t s || eqb a 0) (eq→eqb {a = a} {b = b} (omega arith)) (or-r (Bool·beq t s) (eqb a 0) (eq→eqb z))
-
-positive-no-zero : (x : Float) → T (positive x) → T (isZero x) → ⊥
-positive-no-zero nan p z = absurd p
-positive-no-zero (inf s) p z = absurd p
-positive-no-zero (fin true m e) p z = absurd p
-positive-no-zero (fin false m e) p z = omega (arith, eqb→eq (m * up e) 0 z, mul-pos (ltb→lt 0 m p) (up-pos e))
 
 module _ (P : ℕ) (l : 2 ^ 52 ≤ P) (h : P < 2047 * 2 ^ 52) where
   no-nan : T (not (isNan (ofBits binary64 P)))

@@ -1,7 +1,5 @@
 pub mod Rows
 pub mod Digits
-pub mod Rounded
-pub mod Units
 pub mod Products
 pub mod Equal
 pub mod Cases

@@ -1,20 +1,23 @@
 -- What a caller needs of `sqrt`: at 0 or above it is no NaN and at least 0, it keeps the order, and it is finite where its operand is.
-use mathlib.Core.Path.{_≡_, refl, ap, _∙_}
+use mathlib.Core.Path.{_≡_, refl, sym, ap, _∙_, subst}
 use mathlib.Core.Bool.{Bool, true, false, cond, _&&_}
-use Prim.Native.Nat.{ℕ, zero, suc, _+_, _*_, _/_, _^_, _≤_, zero-le, _%_}
-use native.Mathlib.Nat.{le-of-eq as nat-le-of-eq, le-trans as nat-le-trans, mul-le-mul-right, mul-right-comm, mul-pos, zero-mul, zero-div, le-of-lt, one-mul}
+use Prim.Native.Nat.{ℕ, zero, suc, _+_, _*_, _/_, _^_, _≤_, _<_, zero-le, _%_}
+use native.Mathlib.Nat.{le-of-eq as nat-le-of-eq, le-trans as nat-le-trans, mul-le-mul-right, mul-right-comm, mul-pos, zero-mul, zero-div, le-of-lt, lt-irrefl, one-mul}
 use native.Mathlib.Omega.{arith}
 use lib.Dec.{T, eqb, eqb→eq, leb, ltb, ltb→lt}
-use lib.IntN.{pos}
+use lib.IntN.{ℤ, pos}
 use lib.Pow.{pow-pos}
 use lib.Ieee.{Float, nan, inf, fin, binary64, up, down, round, fits, le}
-use lib.Ieee.Fits.{and-r, eq→eqb, up-pos, round-fits, nan-fits}
+use lib.Ieee.Exact.{HasValue}
+use lib.Ieee.Fits.{and-r, eq→eqb, up-pos, down-pos, round-fits, nan-fits}
 use lib.Ieee.Nearest.{div-mono}
 use lib.Ieee.Order.{round-mono}
 use lib.Ieee.Scale.{finite}
-use lib.Ieee.Positive.{den, den-pos}
+use lib.Ieee.Positive.{den, den-pos, positive}
 use Rattle.float_order.specs.Order.{ordered, le→cross, cross→le, le-ordered-r, le-refl, le-top, le-trans, over, under}
 use Rattle.float_order.specs.Ops.{zero₊, nonneg-under}
+use Rattle.float_order.specs.Same.{isZero}
+use Rattle.float_order.specs.Bits.{units-of}
 use Rattle.float_order.specs.Range.{In, finite-between}
 use Rattle.float_order.specs.Round.{zero-le-round, round-ordered}
 use Rattle.sqrt.specs.Sqrt.{sqrt, rootUnits, wholeRoot}
@@ -151,3 +154,22 @@ root-of-top = tt
 
 pub sqrt-finite : (x : Float) → T (fits binary64 x) → T (finite x) → T (le zero₊ x) → T (finite (sqrt x))
 sqrt-finite x h f p = finite-between zero₊ (sqrt x) (sqrt (fin false 1 (pos 1024))) tt root-of-top (sqrt-nonneg x p) (sqrt-mono x (fin false 1 (pos 1024)) p (under-top x h f))
+
+-- ---- the root of a float that is w of the smallest values
+positive-root : (s : Bool) (m : ℕ) (e : ℤ) (w : ℕ) → 0 < w → HasValue (fin s m e) false w (2 ^ 1074) → sqrt (fin s m e) ≡ rootUnits w
+unfolding sqrt
+positive-root s zero e w h v = absurd (lt-irrefl 0 (subst (λ (x : ℕ). 0 < x) (sym (v .1) ∙ ap (λ (x : ℕ). x * 2 ^ 1074) (zero-mul (up e)) ∙ zero-mul (2 ^ 1074)) (mul-pos h (down-pos e))))
+positive-root true (suc m) e w h v = absurd (subst T (v .0) tt)
+positive-root false (suc m) e w h v = ap rootUnits (units-of false (suc m) e w (2 ^ 1074) w (pow-pos 1074) (v .1) refl)
+
+pub root-at : (x : Float) (w : ℕ) → 0 < w → HasValue x false w (2 ^ 1074) → sqrt x ≡ rootUnits w
+root-at nan w h v = absurd v
+root-at (inf s) w h v = absurd v
+root-at (fin s m e) w h v = positive-root s m e w h v
+
+-- ---- what is above 0 is no zero
+pub positive-no-zero : (x : Float) → T (positive x) → T (isZero x) → ⊥
+positive-no-zero nan p z = absurd p
+positive-no-zero (inf s) p z = absurd p
+positive-no-zero (fin true m e) p z = absurd p
+positive-no-zero (fin false m e) p z = omega (arith, eqb→eq (m * up e) 0 z, mul-pos (ltb→lt 0 m p) (up-pos e))

@@ -1,4 +1,4 @@
--- Document 01's square root, IEEE 754's: to nearest, ties to even, over whole numbers.
+-- Document 01's square root, IEEE 754's: to nearest, ties to even, over whole numbers. That it is the nearest float is proved (Nearest.antt, NearestLaws.antt).
 use Prim.Native.Nat.{ℕ, zero, suc, _+_, _*_, _/_, _^_}
 use mathlib.Core.Bool.{true, false, cond}
 use lib.Dec.{leb, eqb}

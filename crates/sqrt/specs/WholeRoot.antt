@@ -1,7 +1,7 @@
 -- The whole root is the one number whose square is at most n while the next number's is above n.
-use mathlib.Core.Path.{_≡_}
+use mathlib.Core.Path.{_≡_, ap}
 use mathlib.Core.Bool.{Bool, true, false, not, cond}
-use Prim.Native.Nat.{ℕ, zero, suc, _+_, _*_, _/_, _^_, _≤_, _<_}
+use Prim.Native.Nat.{ℕ, zero, suc, _+_, _*_, _/_, _%_, _^_, _≤_, _<_}
 use native.Mathlib.Nat.{le-trans, lt-of-lt-of-le, lt-of-le-of-lt, lt-irrefl, lt-of-not-le, pow-suc, pow-le-pow-left, mul-le-mul, mul-assoc, mul-left-comm, mul-add, add-mul}
 use native.Mathlib.Omega.{arith}
 use lib.Dec.{T, leb, leb→le, nleb→lt}
@@ -55,3 +55,9 @@ root-is n r h = omega (arith, root-ge n r (h .0), root-lt n (r + 1) (h .1))
 
 pub root-mono : (a b : ℕ) → a ≤ b → wholeRoot a ≤ wholeRoot b
 root-mono a b h = root-ge b (wholeRoot a) (le-trans (whole a .0) h)
+
+-- an odd root of a multiple of 4 has a square below it
+pub odd-below : (m p : ℕ) → m % 4 ≡ 0 → IsRoot m p → p % 2 ≡ 1 → p * p < m
+odd-below m p four is o =
+    let e : p ≡ 2 * (p / 2) + 1 = omega arith in
+    omega (arith, is .0, ap (λ (x : ℕ). x * x) e, square-odd (p / 2))

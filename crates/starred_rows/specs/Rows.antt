@@ -1,12 +1,13 @@
 -- The 13 starred rows of document 01 as one table, and one theorem over its rows: each has the answer that the definitions give.
 use Prim.Native.Nat.{ℕ, _*_, _^_, _/_}
 use mathlib.Core.Path.{_≡_, refl}
-use mathlib.Core.Bool.{Bool, true, _&&_, cond}
+use mathlib.Core.Bool.{Bool, true, cond}
 use mathlib.Core.List.{List, [], _∷_, _++_}
 use lib.Dec.{T, eqb, eqb→eq}
 use lib.IntN.{pos}
 use lib.ListN.{take, drop}
-use lib.Ieee.{Float, binary64, ofInt, toBits}
+use lib.Ieee.{binary64, ofInt, toBits}
+use Rattle.bool_laws.specs.Table.{Member, every, of-every, joined}
 use Rattle.float_order.specs.Binary64.{lit}
 use Rattle.float.specs.Float.{helpers}
 use Rattle.sqrt.specs.Sqrt.{sqrt}
@@ -143,13 +144,8 @@ rows =
     ∷ []
 
 -- ---- the theorem
-pub data Member (r : Row) : List Row → Type 0 where
-  here : {rs : List Row} → Member r (r ∷ rs)
-  there : {s : Row} {rs : List Row} → Member r rs → Member r (s ∷ rs)
-
-unfoldable every : List Row → Bool
-every [] = true
-every (r ∷ rs) = eqb (answer (r .question)) (r .gives) && every rs
+abbrev holds : Row → Bool
+holds r = eqb (answer (r .question)) (r .gives)
 
 -- what a row computes through
 unfoldable steps : Bool
@@ -161,42 +157,24 @@ unfoldable part : ℕ → ℕ → List Row
 unfolding rows
 part from n = take n (drop from rows)
 
-part-1 : T (every (part 0 4))
+part-1 : T (every holds (part 0 4))
 part-1 = unfold steps part in tt
 
-part-2 : T (every (part 4 5))
+part-2 : T (every holds (part 4 5))
 part-2 = unfold steps part in tt
 
-part-3 : T (every (part 9 7))
+part-3 : T (every holds (part 9 7))
 part-3 = unfold steps part in tt
 
-part-4 : T (every (part 16 1))
+part-4 : T (every holds (part 16 1))
 part-4 = unfold steps part in tt
 
-both : (a b : Bool) → T (a && b) → T a × T b
-both true b h = (tt, h)
-
-also : (a b : Bool) → T a → T b → T (a && b)
-also true b h k = k
-
-of-every : (r : Row) (rs : List Row) → T (every rs) → Member r rs → answer (r .question) ≡ r .gives
-unfolding every
-of-every r (s ∷ rs) h here = eqb→eq (answer (r .question)) (r .gives) (both (eqb (answer (r .question)) (r .gives)) (every rs) h .0)
-of-every r (s ∷ rs) h (there m) = of-every r rs (both (eqb (answer (s .question)) (s .gives)) (every rs) h .1) m
-
-joined : (xs ys : List Row) → T (every xs) → T (every ys) → T (every (xs ++ ys))
-unfolding every
-joined [] ys h k = k
-joined (x ∷ xs) ys h k =
-    let b = both (eqb (answer (x .question)) (x .gives)) (every xs) h in
-    also (eqb (answer (x .question)) (x .gives)) (every (xs ++ ys)) (b .0) (joined xs ys (b .1) k)
-
-computed : T (every (part 0 4 ++ (part 4 5 ++ (part 9 7 ++ part 16 1))))
-computed = joined (part 0 4) (part 4 5 ++ (part 9 7 ++ part 16 1)) part-1 (joined (part 4 5) (part 9 7 ++ part 16 1) part-2 (joined (part 9 7) (part 16 1) part-3 part-4))
+computed : T (every holds (part 0 4 ++ (part 4 5 ++ (part 9 7 ++ part 16 1))))
+computed = joined holds (part 0 4) (part 4 5 ++ (part 9 7 ++ part 16 1)) part-1 (joined holds (part 4 5) (part 9 7 ++ part 16 1) part-2 (joined holds (part 9 7) (part 16 1) part-3 part-4))
 
 parts : rows ≡ part 0 4 ++ (part 4 5 ++ (part 9 7 ++ part 16 1))
 unfolding rows part
 parts = refl
 
 pub row-holds : (r : Row) → Member r rows → answer (r .question) ≡ r .gives
-row-holds r m = of-every r rows (rw parts computed) m
+row-holds r m = eqb→eq (answer (r .question)) (r .gives) (of-every holds r rows (rw parts computed) m)

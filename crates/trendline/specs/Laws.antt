@@ -11,7 +11,7 @@ use lib.ListN.{length}
 use lib.Ieee as Ieee
 use lib.Ieee.{Float, le, lt, neg}
 use Rattle.float_order.specs.Binary64 as F
-use Rattle.float_order.specs.Binary64.{sub, mul, div, lit, one}
+use Rattle.float_order.specs.Binary64.{sub, mul, div, lit, decimal, one}
 use Rattle.float_order.specs.Order.{ordered, le-trans}
 use Rattle.float_order.specs.Range.{Within, nat, in-ordered, in-closed, lit-in, add-in, mul-in, absorb}
 use Rattle.float_order.specs.Interval.{floats}
@@ -43,6 +43,9 @@ use Rattle.trendline.specs.Threshold.{ThresholdIn, modified-ordered, thr
 -- the largest float that is not above 10 ^ 30
 abbrev pub mostAccumulated : Float
 mostAccumulated = lit 0x4629_3e59_39a0_8ce9
+
+pub mostAccumulated-is : mostAccumulated ≡ decimal 999_999_999_999_999_879_147_136_483_328 1
+mostAccumulated-is = unfold floats in refl
 
 pub most-accumulated : T (le mostAccumulated (nat (10 ^ 30)) && lt (nat (10 ^ 30)) (lit 0x4629_3e59_39a0_8cea))
 most-accumulated = unfold floats in tt

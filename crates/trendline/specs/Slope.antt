@@ -24,7 +24,7 @@ use Rattle.float_order.specs.Exact.{le-add}
 use Rattle.float_order.specs.Dyadic.{two^}
 use Rattle.trendline.specs.declared.Fit.{Fit}
 use Rattle.bool_laws.specs.Bools.{cases}
-use Rattle.trendline.specs.Trendline.{totalFrom, total, withPoint, sumsFrom, sums, average, linearFit}
+use Rattle.trendline.specs.Trendline.{windowSize, totalFrom, total, withPoint, sumsFrom, sums, average, linearFit}
 use Rattle.trendline.specs.History.{First}
 use Rattle.trendline.specs.Term.{Scaled, scaled-wider, scaled-add, scaled-div, term}
 
@@ -202,10 +202,10 @@ module _ (times delays : List Float) (m : length times ≡ 20) (n : length delay
   delays-total-in = total-in zero₊ (nat (10 ^ 31)) (nat (201 * 10 ^ 30)) (lit 0) delays zero-in gs (rw n (unfold floats in tt))
 
   times-average-in : Within (two^ 40) (average times)
-  times-average-in = div-in times-total-in (lit-in (lit 0x4034_0000_0000_0000) (unfold floats in tt)) (unfold floats in tt)
+  times-average-in = div-in times-total-in (lit-in windowSize (unfold floats in tt)) (unfold floats in tt)
 
   delays-average-in : Within (nat (101 * 10 ^ 29)) (average delays)
-  delays-average-in = div-in delays-total-in (lit-in (lit 0x4034_0000_0000_0000) (unfold floats in tt)) (unfold floats in tt)
+  delays-average-in = div-in delays-total-in (lit-in windowSize (unfold floats in tt)) (unfold floats in tt)
 
   abbrev squares : List Float
   squares = terms times times (average times) (average times)

@@ -8,7 +8,7 @@ use lib.Ieee as Ieee
 use lib.Ieee.{Float, nan, inf, fin, binary64, ofInt, unlike, le, lt}
 use lib.Ieee.Positive.{positive, positive-finite}
 use Rattle.float_order.specs.Binary64 as F
-use Rattle.float_order.specs.Binary64.{sub, mul, lit}
+use Rattle.float_order.specs.Binary64.{sub, mul}
 use Rattle.float_order.specs.Order.{ordered, le-trans, le-top, le-ordered-r, lt-left→le}
 use Rattle.float_order.specs.Ops.{zero₊, mul-comm, mul-ordered}
 use Rattle.float_order.specs.Range.{In, nat, -nat, in-wider, in-ordered, in-positive, in-closed, lit-in, add-in, sub-in, mul-in}
@@ -18,7 +18,7 @@ use Rattle.float.specs.Float as Float
 use Rattle.float.specs.MinMax.{min-in, clamp-in, abs-nonneg}
 use Rattle.trendline.specs.declared.Delays.{Delays}
 use Rattle.bool_laws.specs.Bools.{cases}
-use Rattle.trendline.specs.Trendline.{maxAdoptOffsetMs, thresholdGain, kUp, kDown, gain, moved, threshold, modifiedTrend}
+use Rattle.trendline.specs.Trendline.{maxAdoptOffsetMs, thresholdGain, kUp, kDown, maxTimeDeltaMs, minThresholdMs, maxThresholdMs, gain, moved, threshold, modifiedTrend}
 
 abbrev pub ThresholdIn : Float → Type 0
 ThresholdIn x = In (nat 6) (nat 600) x
@@ -62,8 +62,8 @@ moved-in a d elapsed h k =
     let s : In (-nat 600) (nat 609) (sub a d) = sub-in k h (unfold floats in tt) in
     let g : In (-nat 39) (nat 39) (mul (gain a d) (sub a d)) = mul-in (gain-in a d) s (unfold floats in tt) in
     let t : In zero₊ (inf false) ms = record { low = z; high = le-top ms (le-ordered-r zero₊ ms z) } in
-    let l : In zero₊ (nat 100) (Float.min ms (lit 0x4059_0000_0000_0000)) = min-in t (lit-in (lit 0x4059_0000_0000_0000) (unfold floats in tt)) (unfold floats in tt) in
-    let m : In (-nat 3900) (nat 3900) (mul (mul (gain a d) (sub a d)) (Float.min ms (lit 0x4059_0000_0000_0000))) = mul-in g l (unfold floats in tt) in
+    let l : In zero₊ (nat 100) (Float.min ms maxTimeDeltaMs) = min-in t (lit-in maxTimeDeltaMs (unfold floats in tt)) (unfold floats in tt) in
+    let m : In (-nat 3900) (nat 3900) (mul (mul (gain a d) (sub a d)) (Float.min ms maxTimeDeltaMs)) = mul-in g l (unfold floats in tt) in
     add-in h m (unfold floats in tt)
 
 pub threshold-in : (d : Delays) (modified : Float) (elapsed : ℕ) → ThresholdIn (d .«delay_threshold») → T (ordered modified)
@@ -78,4 +78,4 @@ threshold-in d modified elapsed h o =
     (λ e.
     let small : In zero₊ (nat 615) a =
     record { low = z; high = le-trans a (F.add old maxAdoptOffsetMs) (nat 615) (lt-left→le (F.add old maxAdoptOffsetMs) a (in-ordered s) (le-ordered-r zero₊ a z) e) (s .high) } in
-    in-wider (clamp-in (moved a old elapsed) (lit 0x4018_0000_0000_0000) (lit 0x4082_c000_0000_0000) (in-ordered (moved-in a old elapsed h small)) (unfold floats in tt)) (unfold floats in tt))
+    in-wider (clamp-in (moved a old elapsed) minThresholdMs maxThresholdMs (in-ordered (moved-in a old elapsed h small)) (unfold floats in tt)) (unfold floats in tt))

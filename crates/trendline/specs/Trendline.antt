@@ -75,7 +75,15 @@ minDelayCount = 60
 abbrev pub maxDelayCount : ℕ
 maxDelayCount = 1000
 
--- without a name in the Rust
+-- ---- constants without a name in the Rust
+-- window 20
+abbrev pub mostTimings : ℕ
+mostTimings = 20
+
+-- the overuse count stops there
+abbrev pub maxOveruseCount : ℕ
+maxOveruseCount = 2
+
 abbrev pub windowSize : Float
 windowSize = lit 0x4034_0000_0000_0000
 
@@ -119,14 +127,14 @@ unfoldable pub insertFull : List Float → ℕ → Float → List Float
 insertFull xs p x = drop 1 (take p xs ++ (x ∷ drop p xs))
 
 abbrev pub newHistory : History
-newHistory = record { times = replicate 20 (lit 0); delays = replicate 20 (lit 0); len = 0 }
+newHistory = record { times = replicate mostTimings (lit 0); delays = replicate mostTimings (lit 0); len = 0 }
 
 -- over 20, the front leaves
 unfoldable pub add : History → Float → Float → History
 add h time delay =
     let p = place (h .times) (h .len) time in
-    cond (ltb 20 (h .len)) h
-    (cond (ltb (h .len) 20) (record { times = insert (h .times) p time; delays = insert (h .delays) p delay; len = h .len + 1 })
+    cond (ltb mostTimings (h .len)) h
+    (cond (ltb (h .len) mostTimings) (record { times = insert (h .times) p time; delays = insert (h .delays) p delay; len = h .len + 1 })
     (record { times = insertFull (h .times) p time; delays = insertFull (h .delays) p delay; len = h .len }))
 
 -- ---- the least-squares slope
@@ -218,7 +226,7 @@ withTrend d trend threshold′ =
 -- a first observation assumes overuse for half of the time since the previous one; the count stops at 2
 unfoldable pub nextOveruse : OptionOveruse → TimeDelta → Overuse
 nextOveruse Over.None sent = record { count = 1; «time_overusing» = Time.div sent 2 }
-nextOveruse (Over.Some o) sent = record { count = min (o .count + 1) 2; «time_overusing» = Time.add (o .«time_overusing») sent }
+nextOveruse (Over.Some o) sent = record { count = min (o .count + 1) maxOveruseCount; «time_overusing» = Time.add (o .«time_overusing») sent }
 
 -- overuse is told once it has lasted over 10 ms and more than one observation, with a rising trend
 unfoldable pub overusing : Delays → Overuse → Float → BandwidthUsage → Judgement
@@ -299,7 +307,7 @@ detect t trend sent now =
 -- a full history gives a trend
 abbrev pub observed : TrendlineEstimator → TimeDelta → ℕ → TrendlineEstimator
 observed t sent now =
-    cond (eqb (t .history .len) 20)
+    cond (eqb (t .history .len) mostTimings)
     (detect t (linearFit (t .history .times) (t .history .delays) (t .delays .«previous_trend»)) sent now) t
 
 unfoldable pub addDelayObservation : TrendlineEstimator → InterGroupDelayDelta → ℕ → TrendlineEstimator

@@ -2,7 +2,7 @@
 use mathlib.Core.Path.{sym}
 use native.Mathlib.Omega.{arith}
 use Rattle.sqrt.specs.RootBits.{rootBits}
-use Rattle.sqrt.proofs.Units.{digits}
+use Rattle.sqrt.specs.Units.{digits}
 use Rattle.sqrt.proofs.Products.{tested}
 use borrow.Author.Needs.{needs}
 use borrow.Author.Tests.{ne-eqb}

@@ -6,7 +6,7 @@ use lib.Ieee.Bits.{ofBits-toBits}
 use Rattle.sqrt.specs.Sqrt.{sqrt}
 use Rattle.sqrt.specs.RootBits.{rootBits}
 use Rattle.sqrt.proofs.Cases.{at-nan, root-of-nan, zero-same, at-below, at-infinity, no-nan, in-range}
-use Rattle.sqrt.proofs.Units.{digits}
+use Rattle.sqrt.specs.Units.{digits}
 use Rattle.sqrt.proofs.Equal.{nan-eq, eq-nan, by-bits}
 use Rattle.float_order.specs.Order.{is-true}
 use borrow.Author.Needs.{needs}

@@ -6,7 +6,7 @@ use native.Mathlib.Omega.{arith}
 use lib.Pow.{pow-pos}
 use lib.Ieee.{binary64, ofBits}
 use Rattle.float_order.specs.Bits.{low-value, high-value}
-use Rattle.sqrt.proofs.Cases.{root-at}
+use Rattle.sqrt.specs.Laws.{root-at}
 use borrow.Author.Needs.{needs}
 use Rattle.sqrt.proofs.root_at.Statement.{statement}
 use Rattle.sqrt.proofs.root_at.Tie as tie

@@ -1,7 +1,7 @@
 -- `sqrt::root_bits` meets its contract: a pattern that passed the test is the root's.
 use mathlib.Core.Path.{sym, _∙_}
 use native.Mathlib.Omega.{arith}
-use Rattle.sqrt.proofs.Units.{digits}
+use Rattle.sqrt.specs.Units.{digits}
 use borrow.Author.Needs.{needs}
 use borrow.Author.Tests.{eqb-true}
 use Rattle.sqrt.proofs.root_bits.Statement.{statement}

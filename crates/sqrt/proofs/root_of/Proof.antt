@@ -2,7 +2,7 @@
 use Prim.Native.Nat.{_-_}
 use native.Mathlib.Omega.{arith}
 use lib.Count.{leadingZeros, leading-le}
-use Rattle.sqrt.proofs.Units.{normal, answer}
+use Rattle.sqrt.specs.Units.{normal, answer}
 use borrow.Author.Needs.{needs}
 use Rattle.sqrt.proofs.root_of.Statement.{statement}
 use Rattle.sqrt.proofs.root_of.Tie as tie

@@ -5,7 +5,7 @@ use lib.Ieee.{binary64}
 use lib.Ieee.Bits.{ofBits-toBits}
 use Rattle.sqrt.specs.Sqrt.{sqrt}
 use Rattle.sqrt.proofs.Cases.{at-nan, root-of-nan, at-zero, at-below, zero-by-zero, at-infinity, no-nan, in-range}
-use Rattle.sqrt.proofs.Units.{digits}
+use Rattle.sqrt.specs.Units.{digits}
 use Rattle.float_order.specs.Bits.{no-nan-bits}
 use Rattle.float_order.specs.Order.{is-true}
 use borrow.Author.Needs.{needs}

@@ -10,7 +10,7 @@ use lib.Ieee.{binary64, ofBits}
 use Rattle.sqrt.specs.Sqrt.{rootUnits, wholeRoot}
 use Rattle.sqrt.specs.WholeRoot.{whole, root-ge, root-lt}
 use Rattle.sqrt.specs.RootBits.{rootBits, Sized}
-use Rattle.sqrt.proofs.Rounded.{root-bits}
+use Rattle.sqrt.specs.Rounded.{root-bits}
 
 -- ---- to 53 digits
 pub record Normal (m z : ℕ) : Type 0 where
@@ -62,7 +62,7 @@ powers m z r j e h =
 pub digits : (big base : ℕ) → Sized big base → (2 ^ 53 ≤ wholeRoot (big * 2 ^ 54)) × (wholeRoot (big * 2 ^ 54) < 2 ^ 54 - 1)
 digits big base s = (root-ge (big * 2 ^ 54) (2 ^ 53) (omega arith), root-lt (big * 2 ^ 54) (2 ^ 54 - 1) (omega arith))
 
-module _ (m e z : ℕ) (n : Normal m z) (he : e < 2046) where
+module _ (m e z : ℕ) (n : Normal m z) where
   -- as the code has them, with their shifts
   abbrev pub half : ℕ
   half = (e + 54 - z) / 2
@@ -73,17 +73,18 @@ module _ (m e z : ℕ) (n : Normal m z) (he : e < 2046) where
   facts : (big ≡ m * 2 ^ z * 2 ^ ((e + 54 - z) % 2)) × (2 ^ 52 ≤ m * 2 ^ z * 2 ^ ((e + 54 - z) % 2)) × (m * 2 ^ z * 2 ^ ((e + 54 - z) % 2) ≤ 2 ^ 54 - 2)
   facts = shifted (m * 2 ^ z) (2 ^ ((e + 54 - z) % 2)) (n .low) (n .high) (one-or-two (e + 54 - z))
 
-  scale : m * 2 ^ e * 4 ^ 53 ≡ big * 2 ^ 54 * (2 ^ (half - 1) * 2 ^ (half - 1))
+  pub scale : m * 2 ^ e * 4 ^ 53 ≡ big * 2 ^ 54 * (2 ^ (half - 1) * 2 ^ (half - 1))
   scale = rw (facts .0) (powers m z ((e + 54 - z) % 2) (half - 1) e (omega (arith, n .shift)))
 
-  sized : Sized big ((half + 484) * 2 ^ 52)
-  sized = record { low = rw (facts .0) (facts .1); high = rw (facts .0) (facts .2); small = omega arith }
+  pub sized : (base : ℕ) → base ≤ 1533 * 2 ^ 52 → Sized big base
+  sized base h = record { low = rw (facts .0) (facts .1); high = rw (facts .0) (facts .2); small = h }
 
-  pub answer : Sized big ((half + 484) * 2 ^ 52) × (rootUnits (m * 2 ^ e) ≡ ofBits binary64 (rootBits big ((half + 484) * 2 ^ 52)))
-  answer =
+  pub answer : e < 2046 → Sized big ((half + 484) * 2 ^ 52) × (rootUnits (m * 2 ^ e) ≡ ofBits binary64 (rootBits big ((half + 484) * 2 ^ 52)))
+  answer he =
       let q = wholeRoot (big * 2 ^ 54) in
-      let d = digits big ((half + 484) * 2 ^ 52) sized in
+      let s = sized ((half + 484) * 2 ^ 52) (omega arith) in
+      let d = digits big ((half + 484) * 2 ^ 52) s in
       let back : half - 1 + 1 ≡ half = omega (arith, n .shift) in (
-        sized,
+        s,
         root-bits (m * 2 ^ e) (big * 2 ^ 54) (half - 1) q scale (omega arith) (whole (big * 2 ^ 54)) (d .0) (d .1) (omega arith) ∙ ap (λ (x : ℕ). ofBits binary64 ((x + 484) * 2 ^ 52 + (q + 1) / 2)) back,
       )

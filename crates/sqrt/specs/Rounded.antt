@@ -15,7 +15,7 @@ use lib.Ieee.Nearest.{closest, closest-same}
 use Rattle.float_order.specs.Bits.{to-bits}
 use Rattle.float_order.specs.Digits.{compare-lt, compare-gt, size-shifted}
 use Rattle.sqrt.specs.Sqrt.{wholeRoot, rootUnits}
-use Rattle.sqrt.specs.WholeRoot.{IsRoot, root-ge, root-lt, square-lt, square-odd}
+use Rattle.sqrt.specs.WholeRoot.{IsRoot, root-ge, root-lt, square-lt, odd-below}
 use Rattle.sqrt.specs.Laws.{halves, root-units}
 
 -- ---- t / (2 * u) to the nearest whole number, where p * u ≤ t < (p + 1) * u, above p * u for an odd p
@@ -54,12 +54,8 @@ module _ (n m j p : ℕ) (scaled : n ≡ m * (2 ^ j * 2 ^ j)) (four : m % 4 ≡ 
   high : wholeRoot n < (p + 1) * 2 ^ j
   high = root-lt n ((p + 1) * 2 ^ j) (rw (square (p + 1), scaled) (mul-lt-mul-of-pos-right (is .1) (mul-pos (pow-pos j) (pow-pos j))))
 
-  -- an odd p has a square below m
   apart : p % 2 ≡ 1 → p * 2 ^ j * (p * 2 ^ j) < n
-  apart o =
-      let e : p ≡ 2 * (p / 2) + 1 = omega arith in
-      let l : p * p < m = omega (arith, ap (λ (x : ℕ). x * x) e, square-odd (p / 2)) in
-      rw (square p, scaled) (mul-lt-mul-of-pos-right l (mul-pos (pow-pos j) (pow-pos j)))
+  apart o = rw (square p, scaled) (mul-lt-mul-of-pos-right (odd-below m p four is o) (mul-pos (pow-pos j) (pow-pos j)))
 
   between : (p * 2 ^ (j + 1) ≤ halves n) × (halves n < (p + 1) * 2 ^ (j + 1)) × (p % 2 ≡ 1 → p * 2 ^ (j + 1) < halves n)
   between = go (eqb (wholeRoot n * wholeRoot n) n) (eqb→eq (wholeRoot n * wholeRoot n) n)
@@ -93,13 +89,26 @@ module _ (t k p : ℕ) (low : 2 ^ 53 ≤ p) (high : p < 2 ^ 54) (h : (p * 2 ^ k 
       (regroup t (2 ^ 1074) (2 ^ k) (2 ^ 591) (2 ^ 484) refl ∙ ap (λ (x : ℕ). t * (2 ^ 591 * x)) (sym (pow-add 2 k 484)))
       ∙ half t (2 ^ k) p (pow-pos k) (h .0) (h .1) (h .2))
 
-pub root-bits : (N m j p : ℕ) → N * 4 ^ 53 ≡ m * (2 ^ j * 2 ^ j) → m % 4 ≡ 0 → IsRoot m p → 2 ^ 53 ≤ p → p < 2 ^ 54 - 1 → j + 485 < 2046 → rootUnits N ≡ ofBits binary64 ((j + 1 + 484) * 2 ^ 52 + (p + 1) / 2)
-root-bits N m j p e four is low high b =
-    let t = halves (N * 4 ^ 53) in
-    let r = (p + 1) / 2 in
-    let k = j + 1 + 484 in
-    let small : r * 2 ^ k < 2 ^ 2098 = lt-of-lt-of-le (shl-lt 53 k (omega arith)) (pow-mono {i = 53 + k} {j = 2098} (omega arith)) in
-    let v : HasValue (round binary64 false t (2 ^ 591)) false (r * 2 ^ k) (2 ^ 1074) = rw (rounded t (j + 1) p low (omega arith) (between (N * 4 ^ 53) m j p e four is)) (units-val binary64 false r k small) in
-    root-units N
-    ∙ sym (ofBits-toBits binary64 (round binary64 false t (2 ^ 591)) (round-fits binary64 false t (2 ^ 591)))
-    ∙ ap (ofBits binary64) (to-bits (round binary64 false t (2 ^ 591)) (r * 2 ^ k) (2 ^ 1074) r k (pow-pos 1074) v refl (omega arith) (omega arith))
+module _ (N m j p : ℕ) (e : N * 4 ^ 53 ≡ m * (2 ^ j * 2 ^ j)) (four : m % 4 ≡ 0) (is : IsRoot m p) (low : 2 ^ 53 ≤ p) (high : p < 2 ^ 54 - 1) (b : j + 485 < 2046) where
+  abbrev t : ℕ
+  t = halves (N * 4 ^ 53)
+
+  abbrev r : ℕ
+  r = (p + 1) / 2
+
+  abbrev k : ℕ
+  k = j + 1 + 484
+
+  value : HasValue (round binary64 false t (2 ^ 591)) false (r * 2 ^ k) (2 ^ 1074)
+  value =
+      let small : r * 2 ^ k < 2 ^ 2098 = lt-of-lt-of-le (shl-lt 53 k (omega arith)) (pow-mono {i = 53 + k} {j = 2098} (omega arith)) in
+      rw (rounded t (j + 1) p low (omega arith) (between (N * 4 ^ 53) m j p e four is)) (units-val binary64 false r k small)
+
+  pub root-value : HasValue (rootUnits N) false (r * 2 ^ k) (2 ^ 1074)
+  root-value = rw (root-units N) value
+
+  pub root-bits : rootUnits N ≡ ofBits binary64 (k * 2 ^ 52 + r)
+  root-bits =
+      root-units N
+      ∙ sym (ofBits-toBits binary64 (round binary64 false t (2 ^ 591)) (round-fits binary64 false t (2 ^ 591)))
+      ∙ ap (ofBits binary64) (to-bits (round binary64 false t (2 ^ 591)) (r * 2 ^ k) (2 ^ 1074) r k (pow-pos 1074) value refl (omega arith) (omega arith))
