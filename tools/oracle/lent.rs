@@ -1,8 +1,8 @@
 //! Calls on lent links: `oracle lent SEED CALLS` writes cases to standard output, `oracle lent_paths SEED CALLS` prints how often the calls take which path.
 //!
-//! A case is 12 words, as those of module link: operation, inputs, answers. Operation 90 is a new lent link, 91 a packet that waits, 92 a report of those that wait,
-//! 93 a timeout. Answers to a call are the number, then estimate, hypothesis and next timeout, which are 0 of a call that is turned down. After a lent link and after
-//! each call stand the 100 words of the state.
+//! A case is 12 words: an operation, 5 inputs, 6 answers. Operation 90 lends the link whose 100 words come next. A report, 92, has a probe's tag and bits, the moment and
+//! how many packets there are, which come next, list by list; a timeout, 93, has the moment. After each stand the 100 words of the link. The answers are the number,
+//! then estimate, hypothesis and next timeout, which are 0 of a call that is turned down.
 use crate::bwe::link::{Link, Lists, Words};
 use crate::lent_make::{Lent, States};
 use crate::lent_state::*;
@@ -90,10 +90,8 @@ pub fn make(seed: u64, calls: u64) {
         },
         |call, _, answers, after| {
             if let Some((lists, probe)) = &call.report {
-                for i in 0..lists[0].len() {
-                    case(91, [0, 1, 2, 3, 4].map(|k: usize| lists[k][i]), [0; 6]);
-                }
-                case(92, [probe.is_some() as u64, probe.map_or(0, f64::to_bits), call.now, 0, 0], answers);
+                case(92, [probe.is_some() as u64, probe.map_or(0, f64::to_bits), call.now, lists[0].len() as u64, 0], answers);
+                lists.iter().for_each(|list| write(list));
             } else {
                 case(93, [call.now, 0, 0, 0, 0], answers);
             }
@@ -110,7 +108,7 @@ fn draw(w: &Words, r: &mut Random) -> Call {
     }
     let n = match r.below(40) {
         0 => r.below(40),
-        1..5 => 0,
+        1..6 => 0,
         _ => 1 + r.below(3),
     };
     let mut lists = Lists::default();
@@ -204,8 +202,12 @@ impl Paths {
     }
 
     fn called(&mut self, call: &Call, before: &Words, number: u64, after: &Words) {
-        const NUMBERS: [&str; 10] = ["accepted", "question 1", "", "", "question 4", "question 5", "question 6", "question 7", "question 8", "question 9"];
-        self.count(NUMBERS[number as usize], true);
+        let name = match number {
+            0 => "accepted",
+            1 => no_to(before).unwrap(),
+            n => ["question 5", "question 6", "question 7", "question 8", "question 9"][n as usize - 5],
+        };
+        self.count(name, true);
         if number != 0 {
             return;
         }

@@ -38,6 +38,7 @@ impl States {
     pub fn make(&mut self, r: &mut Random) -> Lent {
         let reached = r.one_in(3);
         let mut words = if reached { self.reached(r) } else { drawn(r) };
+        assert!(in_range(&words), "a state was drawn out of range: {words:x?}");
         if r.one_in(10) {
             while in_range(&words) {
                 past_a_limit(&mut words, r);
@@ -261,10 +262,13 @@ fn delays(w: &mut Words, _: Clocks, r: &mut Random) {
     set(w, SMOOTHED_DELAY, float_in(-MOST_31, MOST_31, usual, r));
     let usual = if r.one_in(2) { 12.5 } else { 6.0 + 30.0 * part(r) };
     set(w, THRESHOLD, float_in(6.0, 600.0, usual, r));
-    let trend = match r.below(6) {
+    // which the modified trend of the next variation takes to the threshold, or to the most that it adapts to
+    let limit = (float(w, THRESHOLD) + r.pick(&[0.0, 15.0])) / (4.0 * (w[VARIATIONS] + 1).min(60) as f64);
+    let trend = match r.below(7) {
         0 => f64::INFINITY,
         1 => f64::NEG_INFINITY,
         2 => r.pick(&[0.0, -0.0, f64::MAX, f64::MIN, 5e-324]),
+        3 => r.pick(&[limit, -limit]),
         _ => {
             let most = r.pick(&[0.01, 0.1, 1.0]);
             either_side(most, r)
@@ -292,7 +296,7 @@ fn rates(w: &mut Words, _: Clocks, r: &mut Random) {
     w[STATE] = r.below(3);
     let acked = present(w, ACKED).map_or(1e6, f64::from_bits);
     let any = 0.5 + 2.0 * part(r);
-    let usual = acked * r.pick(&[0.9, 1.0, 1.0 / 0.85, 1.4, 1.5, 2.0, 2.1, any]);
+    let usual = acked * r.pick(&[0.9, 1.0, 1.0 / 0.85, 1.4, 1.5, 2.0, 2.1, any]) + r.pick(&[0.0, 0.0, 10_000.0]);
     set(w, ESTIMATE, float_in(40_000.0, 1e10, usual, r));
     let any = either_side(1e15, r);
     let observed = r.pick(&[f64::NAN, f64::INFINITY, -1.0, 0.0, -0.0, acked, any]);
@@ -311,6 +315,14 @@ fn average(w: &mut Words, place: usize, most: f64, usual: f64, r: &mut Random) {
 
 fn observed_average(w: &mut Words, _: Clocks, r: &mut Random) {
     let acked = present(w, ACKED).map_or(1e6, f64::from_bits);
+    if r.one_in(8) {
+        // three deviations from the acknowledged rate
+        let average = (acked + r.pick(&[3000.0, -3000.0])).clamp(0.0, 1e14);
+        set_optional(w, OBSERVED_AVERAGE + 1, Some(average.to_bits()));
+        set(w, OBSERVED_AVERAGE + 3, 1e6);
+        set(w, OBSERVED_AVERAGE + 4, 1e3);
+        return;
+    }
     let apart = r.pick(&[0.0, 0.01, 0.1, 0.5]);
     let usual = acked * (1.0 + either_side(apart, r));
     average(w, OBSERVED_AVERAGE, 1e14, usual, r);
@@ -324,6 +336,10 @@ fn round_trips(w: &mut Words, _: Clocks, r: &mut Random) {
     let (near, usual, any) = (r.near(limit), r.below(300 * MS), r.below(MOST_NS));
     let rtt = r.pick(&[0, 1, MOST_NS - 1, MOST_NS, near, near, usual, any]);
     set_optional(w, LAST_RTT, (!r.one_in(4)).then_some(rtt));
+    if r.one_in(6) {
+        set_optional(w, SMOOTHED_RTT + 1, None);
+        set_optional(w, LAST_RTT, None);
+    }
 }
 
 fn instants(w: &mut Words, c: Clocks, r: &mut Random) {

@@ -6,6 +6,7 @@ pub const WINDOW: usize = 2;
 /// The acknowledged rate: tag, bits.
 pub const ACKED: usize = 3;
 pub const ACKED_VARIANCE: usize = 5;
+/// In two's complement: a negative sum is past its limit as a word.
 pub const SUM: usize = 6;
 pub const ELAPSED: usize = 7;
 /// An optional instant or duration is its tag, then its ns.
@@ -64,49 +65,52 @@ fn within(x: f64, low: f64, high: f64) -> bool {
     low <= x && x <= high
 }
 
-/// Question 1.
+/// Question 1, clause by clause.
+fn clauses(w: &Words) -> [(&'static str, bool); 18] {
+    [
+        ("question 1: rate", within(float(w, ESTIMATE), 40_000.0, 1e10)),
+        ("question 1: threshold", within(float(w, THRESHOLD), 6.0, 600.0)),
+        ("question 1: at most 20 timings", w[LEN] <= 20),
+        ("question 1: times in order", in_order(w)),
+        ("question 1: times", timings(w, TIMES).all(|t| within(t, -1e12, 1e12))),
+        ("question 1: delays", timings(w, DELAYS).all(|d| within(d, -MOST_31, MOST_31)) && within(float(w, SMOOTHED_DELAY), -MOST_31, MOST_31)),
+        ("question 1: accumulated delay", within(float(w, ACCUMULATED_DELAY), -MOST_30, MOST_30)),
+        ("question 1: previous trend", !float(w, PREVIOUS_TREND).is_nan()),
+        ("question 1: counts", w[VARIATIONS] <= 1000 && w[OVERUSE + 1] <= 2),
+        ("question 1: overuse time", w[OVERUSE] == 0 || [1, 2].contains(&w[OVERUSE + 2]) && w[OVERUSE + 3] <= MOST_OVERUSE),
+        ("question 1: instants and durations", instants_in(w)),
+        ("question 1: byte sum", w[SUM] <= MOST_BYTES && (w[SUM] > 0 || w[ELAPSED] == 0)),
+        ("question 1: fields that never change", constants_in(w)),
+        ("question 1: windows", window_in(w[INITIAL_WINDOW]) && window_in(w[WINDOW])),
+        ("question 1: elapsed window", w[ELAPSED] <= MOST_ELAPSED),
+        ("question 1: acknowledged rate", acked_in(w)),
+        ("question 1: round-trip average", average_in(w, SMOOTHED_RTT, 1e9)),
+        ("question 1: rate's average", average_in(w, OBSERVED_AVERAGE, 1e14)),
+    ]
+}
+
+/// The first clause whose answer is no.
+pub fn no_to(w: &Words) -> Option<&'static str> {
+    clauses(w).into_iter().find(|(_, yes)| !yes).map(|(name, _)| name)
+}
+
 pub fn in_range(w: &Words) -> bool {
-    within(float(w, ESTIMATE), 40_000.0, 1e10)
-        && within(float(w, THRESHOLD), 6.0, 600.0)
-        && timings_in(w)
-        && within(float(w, ACCUMULATED_DELAY), -MOST_30, MOST_30)
-        && within(float(w, SMOOTHED_DELAY), -MOST_31, MOST_31)
-        && !float(w, PREVIOUS_TREND).is_nan()
-        && w[VARIATIONS] <= 1000
-        && overuse_in(w)
-        && instants_in(w)
-        && bytes_in(w)
-        && constants_in(w)
-        && window_in(w[INITIAL_WINDOW])
-        && window_in(w[WINDOW])
-        && w[ELAPSED] <= MOST_ELAPSED
-        && present(w, ACKED).is_none_or(|e| within(f64::from_bits(e), 0.8, 1e14))
-        && within(float(w, ACKED_VARIANCE), 0.0, MOST_30)
-        && average_in(w, SMOOTHED_RTT, 1e9)
-        && average_in(w, OBSERVED_AVERAGE, 1e14)
+    no_to(w).is_none()
 }
 
-/// At most 20 timings in order, times within 10^12 ms, delays within 10^31.
-fn timings_in(w: &Words) -> bool {
-    let n = w[LEN] as usize;
-    n <= 20
-        && (0..n).all(|i| within(float(w, TIMES + i), -1e12, 1e12) && within(float(w, DELAYS + i), -MOST_31, MOST_31))
-        && (1..n).all(|i| float(w, TIMES + i - 1) <= float(w, TIMES + i))
+/// The times or the delays of the history.
+fn timings(w: &Words, place: usize) -> impl Iterator<Item = f64> {
+    w[place..place + w[LEN].min(20) as usize].iter().map(|x| f64::from_bits(*x))
 }
 
-fn overuse_in(w: &Words) -> bool {
-    w[OVERUSE] == 0 || w[OVERUSE + 1] <= 2 && [1, 2].contains(&w[OVERUSE + 2]) && w[OVERUSE + 3] <= MOST_OVERUSE
+fn in_order(w: &Words) -> bool {
+    timings(w, TIMES).zip(timings(w, TIMES).skip(1)).all(|(a, b)| a <= b)
 }
 
 /// A group's times are all present or all absent by the words' form.
 fn instants_in(w: &Words) -> bool {
     let groups_in = GROUPS.iter().all(|g| w[*g] == 0 || w[g + 1..g + 5].iter().all(|t| *t <= MOST_NS));
     groups_in && OPTIONAL_INSTANTS.iter().all(|p| present(w, *p).is_none_or(|t| t <= MOST_NS)) && w[NEXT_TIMEOUT] <= MOST_NS
-}
-
-/// A byte sum as question 9 has it, and 0 only with an elapsed window of 0. A negative one is past the limit as a word.
-fn bytes_in(w: &Words) -> bool {
-    w[SUM] <= MOST_BYTES && (w[SUM] > 0 || w[ELAPSED] == 0)
 }
 
 /// What the Rust never changes.
@@ -116,6 +120,10 @@ fn constants_in(w: &Words) -> bool {
 
 fn window_in(ns: u64) -> bool {
     ns % 1_000_000 == 0 && (1_000_000..=10_000_000_000).contains(&ns)
+}
+
+fn acked_in(w: &Words) -> bool {
+    present(w, ACKED).is_none_or(|e| within(f64::from_bits(e), 0.8, 1e14)) && within(float(w, ACKED_VARIANCE), 0.0, MOST_30)
 }
 
 fn average_in(w: &Words, place: usize, most: f64) -> bool {
