@@ -50,54 +50,66 @@ impl Held {
     }
 }
 
-/// Makes lent links, and calls on each.
-fn each(seed: u64, calls: u64, mut lent: impl FnMut(&Lent), mut called: impl FnMut(&Call, &Words, [u64; 6], &Words)) {
+/// What is done with each lent link and each call on it: the words before, the answers, the words after.
+trait Listener {
+    fn lent(&mut self, lent: &Lent);
+    fn called(&mut self, call: &Call, before: &Words, answers: [u64; 6], after: &Words);
+}
+
+fn run(seed: u64, calls: u64, listener: &mut impl Listener) {
     let mut r = Random::from_seed(seed);
     let mut states = States::new();
     let mut left = calls;
     while left > 0 {
-        let state = states.make(&mut r);
-        lent(&state);
-        let mut held = Held::new(state.words);
+        let lent = states.make(&mut r);
+        listener.lent(&lent);
+        let mut held = Held::new(lent.words);
         for _ in 0..CALLS_A_LINK.min(left) {
             let call = draw(&held.words, &mut r);
             let before = held.words;
             let answers = held.call(&call);
-            called(&call, &before, answers, &held.words);
+            listener.called(&call, &before, answers, &held.words);
             left -= 1;
         }
     }
 }
 
-pub fn make(seed: u64, calls: u64) {
-    let out = std::cell::RefCell::new(BufWriter::with_capacity(1 << 20, std::io::stdout().lock()));
-    let write = |words: &[u64]| {
+/// Writes the cases.
+struct Cases<W: Write>(W);
+
+impl<W: Write> Cases<W> {
+    fn words(&mut self, words: &[u64]) {
         for w in words {
-            out.borrow_mut().write_all(&w.to_le_bytes()).unwrap();
+            self.0.write_all(&w.to_le_bytes()).unwrap();
         }
-    };
-    let case = |op: u64, inputs: [u64; 5], answers: [u64; 6]| {
-        write(&[op]);
-        write(&inputs);
-        write(&answers);
-    };
-    each(
-        seed,
-        calls,
-        |lent| {
-            case(90, [0; 5], [0; 6]);
-            write(&lent.words);
-        },
-        |call, _, answers, after| {
-            if let Some((lists, probe)) = &call.report {
-                case(92, [probe.is_some() as u64, probe.map_or(0, f64::to_bits), call.now, lists[0].len() as u64, 0], answers);
-                lists.iter().for_each(|list| write(list));
-            } else {
-                case(93, [call.now, 0, 0, 0, 0], answers);
-            }
-            write(after);
-        },
-    );
+    }
+
+    fn case(&mut self, op: u64, inputs: [u64; 5], answers: [u64; 6]) {
+        self.words(&[op]);
+        self.words(&inputs);
+        self.words(&answers);
+    }
+}
+
+impl<W: Write> Listener for Cases<W> {
+    fn lent(&mut self, lent: &Lent) {
+        self.case(90, [0; 5], [0; 6]);
+        self.words(&lent.words);
+    }
+
+    fn called(&mut self, call: &Call, _: &Words, answers: [u64; 6], after: &Words) {
+        if let Some((lists, probe)) = &call.report {
+            self.case(92, [probe.is_some() as u64, probe.map_or(0, f64::to_bits), call.now, lists[0].len() as u64, 0], answers);
+            lists.iter().for_each(|list| self.words(list));
+        } else {
+            self.case(93, [call.now, 0, 0, 0, 0], answers);
+        }
+        self.words(after);
+    }
+}
+
+pub fn make(seed: u64, calls: u64) {
+    run(seed, calls, &mut Cases(BufWriter::with_capacity(1 << 20, std::io::stdout().lock())));
 }
 
 // ---- calls
@@ -107,8 +119,9 @@ fn draw(w: &Words, r: &mut Random) -> Call {
         return Call { report: None, now };
     }
     let n = match r.below(40) {
+        _ if no_round_trip(w) && r.one_in(2) => 0,
         0 => r.below(40),
-        1..6 => 0,
+        1..5 => 0,
         _ => 1 + r.below(3),
     };
     let mut lists = Lists::default();
@@ -121,11 +134,18 @@ fn draw(w: &Words, r: &mut Random) -> Call {
     Call { report: Some((lists, r.one_in(8).then(|| probe(r)))), now }
 }
 
+// A packet brings a round trip; before it the default backoff counts.
+fn no_round_trip(w: &Words) -> bool {
+    w[LAST_RTT] == 0 && w[SMOOTHED_RTT + 1] == 0
+}
+
 // A moment around those of the state.
 fn moment(w: &Words, r: &mut Random) -> u64 {
-    let place = r.pick(&[LAST_REPORT, ESTIMATE_UPDATE, LAST_REPORT, ESTIMATE_UPDATE, ORIGIN]);
+    let backoff = no_round_trip(w) && r.one_in(2);
+    let place = if backoff { ESTIMATE_UPDATE } else { r.pick(&[LAST_REPORT, ESTIMATE_UPDATE, LAST_REPORT, ESTIMATE_UPDATE, ORIGIN]) };
     let base = present(w, place).unwrap_or(w[NEXT_TIMEOUT]);
-    let later = MS * r.pick(&[0, 1, 5, 9, 10, 11, 24, 25, 26, 49, 50, 51, 99, 100, 101, 199, 200, 201, 999, 1000, 1001, 60_000]);
+    let later = [99, 100, 101, 0, 1, 5, 9, 10, 11, 24, 25, 26, 49, 50, 51, 199, 200, 201, 999, 1000, 1001, 60_000];
+    let later = MS * r.pick(if backoff { &later[..3] } else { &later });
     let now = match r.below(16) {
         0 => base.saturating_sub(later),
         1 if r.one_in(4) => r.pick(&[0, MS, MOST - MS, MOST, MOST + MS, MOST + 1, u64::MAX]),
@@ -192,25 +212,39 @@ fn size(w: &Words, r: &mut Random) -> u64 {
 }
 
 // ---- paths
-/// How often calls took a path, told by the states before and after.
+/// How many links were lent, how many of them were reached, and how often calls took a path, told by the states before and after.
 #[derive(Default)]
-struct Paths(std::collections::BTreeMap<&'static str, u64>);
+struct Paths {
+    links: u64,
+    reached: u64,
+    counts: std::collections::BTreeMap<&'static str, u64>,
+}
 
-impl Paths {
-    fn count(&mut self, name: &'static str, met: bool) {
-        *self.0.entry(name).or_default() += met as u64;
+impl Listener for Paths {
+    fn lent(&mut self, lent: &Lent) {
+        self.links += 1;
+        self.reached += lent.reached as u64;
     }
 
-    fn called(&mut self, call: &Call, before: &Words, number: u64, after: &Words) {
-        let name = match number {
+    fn called(&mut self, call: &Call, before: &Words, answers: [u64; 6], after: &Words) {
+        let name = match answers[0] {
             0 => "accepted",
             1 => no_to(before).unwrap(),
             n => ["question 5", "question 6", "question 7", "question 8", "question 9"][n as usize - 5],
         };
         self.count(name, true);
-        if number != 0 {
-            return;
+        if answers[0] == 0 {
+            self.accepted(call, before, after);
         }
+    }
+}
+
+impl Paths {
+    fn count(&mut self, name: &'static str, met: bool) {
+        *self.counts.entry(name).or_default() += met as u64;
+    }
+
+    fn accepted(&mut self, call: &Call, before: &Words, after: &Words) {
         self.count("accepted, after which question 1 is a no", !in_range(after));
         if let Some((lists, probe)) = &call.report {
             self.groups(lists, before);
@@ -220,6 +254,8 @@ impl Paths {
         }
         self.trendline(before, after);
         self.rate(call, before, after);
+        self.count("a first acknowledged rate", before[ACKED] == 0 && after[ACKED] == 1);
+        self.count("an acknowledged rate that moved", before[ACKED] == 1 && before[ACKED + 1] != after[ACKED + 1]);
     }
 
     fn groups(&mut self, lists: &Lists, before: &Words) {
@@ -253,24 +289,16 @@ impl Paths {
         self.count("an increase that falls", updated && after[STATE] == 0 && new < old);
         self.count("a decrease", updated && after[STATE] == 1 && new < old);
         self.count("an average that was reset", before[OBSERVED_AVERAGE + 1] == 1 && after[OBSERVED_AVERAGE + 1] == 0);
-        self.count("a first acknowledged rate", before[ACKED] == 0 && after[ACKED] == 1);
-        self.count("an acknowledged rate that moved", before[ACKED] == 1 && before[ACKED + 1] != after[ACKED + 1]);
+        let reduces = !probed && after[ACKED] == 1 && after[HYPOTHESIS] == 0 && before[ESTIMATE_UPDATE] == 1 && no_round_trip(after);
+        self.count("the default backoff in an overuse", reduces && (call.report.is_some() || after[STATE] != before[STATE]));
     }
 }
 
 pub fn paths(seed: u64, calls: u64) {
-    let (mut paths, mut links, mut reached) = (Paths::default(), 0, 0);
-    each(
-        seed,
-        calls,
-        |lent| {
-            links += 1;
-            reached += lent.reached as u64;
-        },
-        |call, before, answers, after| paths.called(call, before, answers[0], after),
-    );
-    println!("{calls} calls on {links} links, {reached} of them reached but for drawn parts");
-    for (name, count) in paths.0 {
+    let mut paths = Paths::default();
+    run(seed, calls, &mut paths);
+    println!("{calls} calls on {} links, {} of them reached but for drawn parts", paths.links, paths.reached);
+    for (name, count) in paths.counts {
         println!("{count:>9} {name}");
     }
 }

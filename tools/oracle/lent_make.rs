@@ -126,7 +126,7 @@ fn set(w: &mut Words, place: usize, x: f64) {
     w[place] = x.to_bits();
 }
 
-// A limit or its neighbour within, or another value of which it is the range's end.
+// Within limits: one of them or its neighbour, a small or a round number, any; else the usual one.
 fn float_in(low: f64, high: f64, usual: f64, r: &mut Random) -> f64 {
     match r.below(10) {
         0 => r.pick(&[low, low.next_up()]),
@@ -330,7 +330,8 @@ fn observed_average(w: &mut Words, _: Clocks, r: &mut Random) {
 
 fn round_trips(w: &mut Words, _: Clocks, r: &mut Random) {
     let any = part(r);
-    let usual = r.pick(&[0.0, 5e-10, 1.5e-9, 2.5e-9, 0.0125, 0.025, 0.02, 0.2 * any, 0.03 * any]);
+    // a 1,024th of a second, and 3 of them, lie halfway between two ns
+    let usual = r.pick(&[0.0, 5e-10, 1.0 / 1024.0, 3.0 / 1024.0, 0.0125, 0.025, 0.02, 0.2 * any, 0.03 * any]);
     average(w, SMOOTHED_RTT, 1e9, usual, r);
     let limit = MS * r.pick(&[10, 100, 200, 25]);
     let (near, usual, any) = (r.near(limit), r.below(300 * MS), r.below(MOST_NS));
