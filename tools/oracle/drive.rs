@@ -69,16 +69,29 @@ fn option(x: Option<f64>) -> (u64, u64) {
     x.map_or((0, 0), |x| (1, bits(x)))
 }
 
-fn rate(b: u64) -> Bitrate {
+/// Of a tag and a word.
+pub fn optional(w: &[u64]) -> Option<u64> {
+    (w[0] == 1).then_some(w[1])
+}
+
+pub fn option_words(x: Option<u64>) -> [u64; 2] {
+    x.map_or([0, 0], |x| [1, x])
+}
+
+pub fn rate(b: u64) -> Bitrate {
     Bitrate::from(f64::from_bits(b))
 }
 
-fn usage(u: BandwidthUsage) -> u64 {
+pub fn usage(u: BandwidthUsage) -> u64 {
     match u {
         BandwidthUsage::Overuse => 0,
         BandwidthUsage::Normal => 1,
         BandwidthUsage::Underuse => 2,
     }
+}
+
+pub fn usage_of(word: u64) -> BandwidthUsage {
+    [BandwidthUsage::Overuse, BandwidthUsage::Normal, BandwidthUsage::Underuse][word as usize]
 }
 
 // Hypothesis with the counts of variations and of overuse (at most 2), threshold, trend, sums, and the time of overuse.

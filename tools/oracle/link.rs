@@ -1,5 +1,5 @@
-//! A link: the Rust's estimators, wired as document 01's "Link" says, with its questions 2 to 9 asked in their order. (Question 1 is of lent states: a
-//! link that was opened passes it.)
+//! A link: the Rust's estimators, wired as document 01's "Link" says, with its questions 2 to 9 asked in their order. (Question 1 is of lent states, and
+//! lent.rs asks it: a link that was opened passes it.)
 use super::acked_bitrate_estimator::AckedBitrateEstimator;
 use super::delay::control::DelayController;
 use super::drive::{at, bits, ns, since_zero, trend_words};
@@ -8,6 +8,11 @@ use crate::rtp_::{Bitrate, DataSize, TwccSeq};
 
 const MOST_INSTANT: u64 = 1_000_000_000_000_000_000;
 const MOST_BYTES: i64 = 2_147_483_647;
+
+/// A whole state as words, the first of them the format's number.
+pub type Words = [u64; 100];
+
+const FORMAT: u64 = 1;
 
 /// Sequences, sizes, sends, remotes, receives.
 pub type Lists = [Vec<u64>; 5];
@@ -36,6 +41,24 @@ fn moment_in(now: u64) -> bool {
 }
 
 impl Link {
+    /// The link whose fields are these words (crates/link_words).
+    pub fn from_words(w: &Words) -> Self {
+        Link { acked: AckedBitrateEstimator::from_words(&w[1..]), control: DelayController::from_words(&w[10..]) }
+    }
+
+    pub fn words(&self) -> Words {
+        let mut w = vec![FORMAT];
+        w.extend(self.acked.words());
+        w.extend(self.control.words());
+        w.try_into().unwrap()
+    }
+
+    /// Estimate, hypothesis, next timeout.
+    pub fn estimate(&self) -> [u64; 3] {
+        let s = self.shown();
+        [s[0], s[1] & 255, s[2]]
+    }
+
     /// 0, or the number of the first question whose answer is no.
     pub fn report(&mut self, lists: &Lists, probe: Option<f64>, now: u64) -> u64 {
         let n = lists[0].len();

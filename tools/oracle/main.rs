@@ -7,6 +7,8 @@
 //!     oracle zero_sizes SIZE            the user's failure: the first half second's packets have this size
 //!     oracle entries                    how far the growth table lies from this machine's `powf`
 //!     oracle passes SEED COUNT SIZE     pass files with the Rust's listings, to standard output; SIZE is short or long
+//!     oracle lent SEED CALLS            calls on lent links with the Rust's answers and its state after each, to standard output
+//!     oracle lent_paths SEED CALLS      how often those calls take which path
 //!     oracle list                       the listing of the pass file on standard input, or the number of the question that it fails
 //!
 //! A case is 12 words of 8 bytes, little-endian: an operation, 5 inputs, 6 answers. drive.rs has the operations, make.rs the cases.
@@ -84,6 +86,9 @@ mod bwe {
 mod bench;
 mod demand3;
 mod distance;
+mod lent;
+mod lent_make;
+mod lent_state;
 mod make;
 mod pass_files;
 
@@ -96,6 +101,8 @@ fn main() {
         Some("demand3") if words.len() == 4 => demand3::demand3(words[2].parse().unwrap(), words[3].parse().unwrap()),
         Some("zero_sizes") if words.len() == 3 => bwe::link::zero_sizes(words[2].parse().unwrap()),
         Some("entries") if words.len() == 2 => distance::entries(),
+        Some("lent") if words.len() == 4 => lent::make(words[2].parse().unwrap(), words[3].parse().unwrap()),
+        Some("lent_paths") if words.len() == 4 => lent::paths(words[2].parse().unwrap(), words[3].parse().unwrap()),
         Some("list") if words.len() == 2 => pass_files::list(),
         Some("passes") if words.len() == 5 => pass_files::make(words[2].parse().unwrap(), words[3].parse().unwrap(), words[4] == "long"),
         #[cfg(bench)]
@@ -105,7 +112,7 @@ fn main() {
         #[cfg(bench)]
         Some("turns") if words.len() == 5 => bench::turns(&words[2], &words[3], words[4].parse().unwrap()),
         _ => {
-            eprintln!("usage: oracle make MODULE SEED COUNT | distance A B | listings A B | demand3 SEED COUNT | zero_sizes SIZE | entries | passes SEED COUNT SIZE | list");
+            eprintln!("usage: oracle make MODULE SEED COUNT | distance A B | listings A B | demand3 SEED COUNT | zero_sizes SIZE | entries | passes SEED COUNT SIZE | lent SEED CALLS | lent_paths SEED CALLS | list");
             std::process::exit(2);
         }
     }

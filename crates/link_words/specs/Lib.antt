@@ -1,0 +1,3 @@
+pub mod LinkWords
+pub mod Laws
+pub mod Reading
