@@ -1,201 +1,157 @@
-// Question 1 at its limits: a link as opening returns it, with one field set to a limit and then just past it. Prints the number that a timeout gives: 0
-// accepted, 1 refused.
+// Question 1 at its limits. A line of standard input has the name of a clause and, parted by spaces, cases. A case sets words of a link (link_words), as
+// 86=4000000000000000,87=3ff6a09e667f3bcd does: two decimal digits, and a number in hexadecimal. The other words are those of a link with every option
+// present. Prints the name, and for each case the number that a timeout gives, 0 accepted and 1 refused, or a dash for words that are no link's.
 use bandwidth::Bitrate;
-use bandwidth::DataSize;
+use libc::STDIN_FILENO;
 use libc::STDOUT_FILENO;
-use link_state::Link;
+use link::Opened;
+use link::Opening;
+use std::num::wrapping_add_u64;
+use std::num::wrapping_sub_u64;
 
-fn fresh() -> Link {
-    let acked = acked_bitrate_estimator::AckedBitrateEstimator::new(500_000_000, 150_000_000);
-    let control = control::DelayController::new(Bitrate(1_000_000.0));
-    Link { acked, control }
+fn opened() -> [u64; 100] {
+    if let Opened::Accepted(opening) = Opening::judge(
+        Bitrate(1_000_000.0),
+        500_000_000,
+        150_000_000,
+    ) {
+        return link_words::words(opening.link());
+    }
+    [0; 100]
 }
 
-fn show(link: Link) {
-    let called = link::timeout(link, 1_000_000_000);
-    let answer = called.answer;
+// Every option present, its value 0 but for an acknowledged rate of 1; twenty timings at 0; a byte in an elapsed window of 1 ns.
+fn full() -> [u64; 100] {
+    let mut words = opened();
+    words[3] = 1;
+    words[4] = float_bits::to_bits(1.0);
+    words[6] = 1;
+    words[7] = 1;
+    words[8] = 1;
+    words[10] = 1;
+    words[12] = 1;
+    words[17] = 1;
+    words[22] = 1;
+    words[64] = 20;
+    words[70] = 1;
+    words[72] = 2;
+    words[74] = 1;
+    words[81] = 1;
+    words[84] = 1;
+    words[88] = 1;
+    words[90] = 1;
+    words[93] = 1;
+    words[98] = 1;
+    words
+}
+
+fn wide(x: u8) -> u64 {
+    x as u64
+}
+
+// The next byte, or 256 at the end.
+fn next() -> u64 {
+    let mut byte = [0u8; 1];
+    if io::read_full(STDIN_FILENO, &mut byte) < 1 {
+        return 256;
+    }
+    wide(byte[0])
+}
+
+// The digit that a byte stands for, or 16.
+fn digit(c: u64) -> u64 {
+    if (48 <= c) & (c <= 57) {
+        return wrapping_sub_u64(c, 48);
+    }
+    if (97 <= c) & (c <= 102) {
+        return wrapping_sub_u64(c, 87);
+    }
+    16
+}
+
+// A number in hexadecimal, and the byte after it.
+struct Number {
+    value: u64,
+    end: u64,
+}
+
+fn read_number() -> Number {
+    let mut value = 0u64;
+    for _ in 0..17u64 {
+        let c = next();
+        let d = digit(c);
+        if d == 16 {
+            return Number { value, end: c };
+        }
+        value = wrapping_add_u64(value % 0x1000_0000_0000_0000 * 16, d);
+    }
+    Number { value, end: 256 }
+}
+
+fn write(c: u64) {
+    let byte = [(c % 256) as u8];
+    io::write_all(STDOUT_FILENO, &byte);
+}
+
+// Prints a name; returns the byte after it, a colon if there is a line.
+fn name() -> u64 {
+    for _ in 0..1000u64 {
+        let c = next();
+        if (c == 58) | (c == 256) {
+            return c;
+        }
+        write(c);
+    }
+    256
+}
+
+fn show(words: &[u64; 100]) {
     io::write_all(STDOUT_FILENO, b" ");
-    io::print_decimal(STDOUT_FILENO, answer.number());
+    if link_words::formed(words) {
+        let called = link::timeout(link_words::load(words), 1_000_000_000);
+        let answer = called.answer;
+        io::print_decimal(STDOUT_FILENO, answer.number());
+    } else {
+        io::write_all(STDOUT_FILENO, b"-");
+    }
 }
 
-fn name(text: &[u8]) {
-    io::write_all(STDOUT_FILENO, text);
+// Asks a case; returns the byte after it, a space if there is another.
+fn case(link: [u64; 100]) -> u64 {
+    let mut words = link;
+    let mut end = 256;
+    for _ in 0..100u64 {
+        let at = read_number();
+        let word = read_number();
+        // Two decimal digits, which were read as hexadecimal ones.
+        let i = (at.value / 16 % 10 * 10 + at.value % 16 % 10) as usize;
+        words[i] = word.value;
+        end = word.end;
+        if end != 44 {
+            break;
+        }
+    }
+    show(&words);
+    end
 }
 
-fn end() {
-    io::write_all(STDOUT_FILENO, b"\n");
-}
-
-fn estimate(x: f64) {
-    let mut l = fresh();
-    l.control.rate_control.estimated_bitrate.0 = x;
-    show(l);
-}
-
-fn max_bitrate(x: f64) {
-    let mut l = fresh();
-    l.control.rate_control.max_bitrate.0 = x;
-    show(l);
-}
-
-fn threshold(x: f64) {
-    let mut l = fresh();
-    l.control.trendline_estimator.delays.delay_threshold = x;
-    show(l);
-}
-
-fn accumulated(x: f64) {
-    let mut l = fresh();
-    l.control.trendline_estimator.delays.accumulated_delay = x;
-    show(l);
-}
-
-fn smoothed(x: f64) {
-    let mut l = fresh();
-    l.control.trendline_estimator.delays.smoothed_delay = x;
-    show(l);
-}
-
-fn trend(x: f64) {
-    let mut l = fresh();
-    l.control.trendline_estimator.delays.previous_trend = x;
-    show(l);
-}
-
-fn variations(n: u64) {
-    let mut l = fresh();
-    l.control.trendline_estimator.delays.num_delay_variations = n;
-    show(l);
-}
-
-fn timings(n: usize, first: f64, second: f64) {
-    let mut l = fresh();
-    let mut control = l.control;
-    let mut trendline = control.trendline_estimator;
-    let mut history = trendline.history;
-    history.len = n;
-    history.times[0] = first;
-    history.times[1] = second;
-    trendline.history = history;
-    control.trendline_estimator = trendline;
-    l.control = control;
-    show(l);
-}
-
-fn variance(x: f64, deviation: f64) {
-    let mut l = fresh();
-    l.control.smoothed_rtt.variance = x;
-    l.control.smoothed_rtt.std = deviation;
-    show(l);
-}
-
-fn next_timeout(ns: u64) {
-    let mut l = fresh();
-    l.control.next_timeout = ns;
-    show(l);
-}
-
-fn window(ns: u64) {
-    let mut l = fresh();
-    l.acked.window = ns;
-    show(l);
-}
-
-fn sum(bytes: i64, elapsed: u64) {
-    let mut l = fresh();
-    let mut acked = l.acked;
-    let size = DataSize(bytes);
-    acked.sum = size;
-    acked.current_window = elapsed;
-    l.acked = acked;
-    show(l);
-}
-
-fn rates() {
-    name(b"estimate 40000, below; 10^10, above; NaN:");
-    estimate(40_000.0);
-    estimate(39_999.99999999999);
-    estimate(10_000_000_000.0);
-    estimate(10_000_000_000.000002);
-    estimate(0.0 / 0.0);
-    end();
-    name(b"greatest estimate 10^10, infinity:");
-    max_bitrate(10_000_000_000.0);
-    max_bitrate(1.0 / 0.0);
-    end();
-}
-
-fn delays() {
-    name(b"threshold 6, below; 600, above; NaN:");
-    threshold(6.0);
-    threshold(5.999999999999999);
-    threshold(600.0);
-    threshold(600.0000000000001);
-    threshold(0.0 / 0.0);
-    end();
-    name(b"accumulated delay below 10^30, above; below -10^30:");
-    accumulated(999999999999999879147136483328.0);
-    accumulated(1e30);
-    accumulated(-1e30);
-    end();
-    name(b"smoothed delay below 10^31, above:");
-    smoothed(1e31);
-    smoothed(1.0000000000000001e31);
-    end();
-    name(b"previous trend infinite, NaN:");
-    trend(1.0 / 0.0);
-    trend(0.0 / 0.0);
-    end();
-}
-
-fn histories() {
-    name(b"delay variations 1000, 1001:");
-    variations(1000);
-    variations(1001);
-    end();
-    name(b"timings in order, equal, out of order; at 10^12, above; 21 of them:");
-    timings(2, 1.0, 2.0);
-    timings(2, 2.0, 2.0);
-    timings(2, 2.0, 1.0);
-    timings(2, -1e12, 1e12);
-    timings(2, 0.0, 1000000000000.0001);
-    timings(21, 1.0, 2.0);
-    end();
-    name(b"variance and its root, another deviation; past 10^30:");
-    variance(2.0, 1.4142135623730951);
-    variance(2.0, 1.414213562373095);
-    variance(1e30, 1e15);
-    end();
-}
-
-fn windows() {
-    name(b"next timeout 10^18 + 10^9, above:");
-    next_timeout(1_000_000_001_000_000_000);
-    next_timeout(1_000_000_001_000_000_001);
-    end();
-    name(b"window 1 ms, 10,000 ms, no whole ms, 0, 10,001 ms:");
-    window(1_000_000);
-    window(10_000_000_000);
-    window(1_500_000);
-    window(0);
-    window(10_001_000_000);
-    end();
-    name(
-        b"byte sum 2147483647, above, below 0; 0 with an elapsed window of 0, of 1 ns; an elapsed window of 10^10 ns, above:",
-    );
-    sum(2_147_483_647, 1);
-    sum(2_147_483_648, 1);
-    sum(-1, 0);
-    sum(0, 0);
-    sum(0, 1);
-    sum(1, 10_000_000_000);
-    sum(1, 10_000_000_001);
-    end();
+fn cases(link: [u64; 100]) {
+    for _ in 0..1000u64 {
+        if case(link) != 32 {
+            break;
+        }
+    }
 }
 
 fn main() {
-    rates();
-    delays();
-    histories();
-    windows();
+    let link = full();
+    for _ in 0..1000u64 {
+        if name() != 58 {
+            break;
+        }
+        write(58);
+        let _ = next();
+        cases(link);
+        write(10);
+    }
 }
