@@ -7,6 +7,7 @@
 //!     oracle zero_sizes SIZE            the user's failure: the first half second's packets have this size
 //!     oracle entries                    how far the growth table lies from this machine's `powf`
 //!     oracle passes SEED COUNT SIZE     pass files with the Rust's listings, to standard output; SIZE is short or long
+//!     oracle limits KIND                cases at each limit and beside it; KIND is modules, links or passes (pass files)
 //!     oracle list                       the listing of the pass file on standard input, or the number of the question that it fails
 //!
 //! A case is 12 words of 8 bytes, little-endian: an operation, 5 inputs, 6 answers. drive.rs has the operations, make.rs the cases.
@@ -84,6 +85,8 @@ mod bwe {
 mod bench;
 mod demand3;
 mod distance;
+mod limits;
+mod limits_calls;
 mod make;
 mod pass_files;
 
@@ -98,6 +101,12 @@ fn main() {
         Some("entries") if words.len() == 2 => distance::entries(),
         Some("list") if words.len() == 2 => pass_files::list(),
         Some("passes") if words.len() == 5 => pass_files::make(words[2].parse().unwrap(), words[3].parse().unwrap(), words[4] == "long"),
+        Some("limits") if words.len() == 3 => match words[2].as_str() {
+            "modules" => limits::modules(),
+            "links" => limits_calls::links(),
+            "passes" => limits_calls::passes(),
+            _ => panic!("no such kind"),
+        },
         #[cfg(bench)]
         Some("bench") if words.len() == 4 => bench::bench(words[2].parse().unwrap(), words[3].parse().unwrap()),
         #[cfg(bench)]
@@ -105,7 +114,7 @@ fn main() {
         #[cfg(bench)]
         Some("turns") if words.len() == 5 => bench::turns(&words[2], &words[3], words[4].parse().unwrap()),
         _ => {
-            eprintln!("usage: oracle make MODULE SEED COUNT | distance A B | listings A B | demand3 SEED COUNT | zero_sizes SIZE | entries | passes SEED COUNT SIZE | list");
+            eprintln!("usage: oracle make MODULE SEED COUNT | distance A B | listings A B | demand3 SEED COUNT | zero_sizes SIZE | entries | passes SEED COUNT SIZE | limits KIND | list");
             std::process::exit(2);
         }
     }
