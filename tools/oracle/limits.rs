@@ -461,7 +461,7 @@ fn thresholds(c: &mut Cases) {
         observe(c, &first_such(&seen, equal_to(&seen, equal), |_, _, modified| modified == equal));
     }
     // 59, 60 and 61 variations; the threshold moves by whole ms, at most 100 of them
-    observe(c, &slope(63, 10 * MS, 200_000, 10 * MS));
+    observe(c, &slope(63, 10 * MS, 700_000, 10 * MS));
     for elapsed in [9_999_999, 99_999_999, 100 * MS, 101 * MS] {
         let mut seen = slope(20, 10 * MS, 300_000, 10 * MS);
         let last = seen[19].2;
