@@ -9,6 +9,7 @@
 //!     oracle passes SEED COUNT SIZE     pass files with the Rust's listings, to standard output; SIZE is short or long
 //!     oracle lent SEED CALLS            calls on lent links with the Rust's answers and its state after each, to standard output
 //!     oracle lent_paths SEED CALLS      how often those calls take which path
+//!     oracle limits KIND                cases at each limit and beside it; KIND is modules, links or passes (pass files)
 //!     oracle list                       the listing of the pass file on standard input, or the number of the question that it fails
 //!
 //! A case is 12 words of 8 bytes, little-endian: an operation, 5 inputs, 6 answers. drive.rs has the operations, make.rs the cases.
@@ -89,6 +90,8 @@ mod distance;
 mod lent;
 mod lent_make;
 mod lent_state;
+mod limits;
+mod limits_calls;
 mod make;
 mod pass_files;
 
@@ -105,6 +108,12 @@ fn main() {
         Some("lent_paths") if words.len() == 4 => lent::paths(words[2].parse().unwrap(), words[3].parse().unwrap()),
         Some("list") if words.len() == 2 => pass_files::list(),
         Some("passes") if words.len() == 5 => pass_files::make(words[2].parse().unwrap(), words[3].parse().unwrap(), words[4] == "long"),
+        Some("limits") if words.len() == 3 => match words[2].as_str() {
+            "modules" => limits::modules(),
+            "links" => limits_calls::links(),
+            "passes" => limits_calls::passes(),
+            _ => panic!("no such kind"),
+        },
         #[cfg(bench)]
         Some("bench") if words.len() == 4 => bench::bench(words[2].parse().unwrap(), words[3].parse().unwrap()),
         #[cfg(bench)]
@@ -112,7 +121,7 @@ fn main() {
         #[cfg(bench)]
         Some("turns") if words.len() == 5 => bench::turns(&words[2], &words[3], words[4].parse().unwrap()),
         _ => {
-            eprintln!("usage: oracle make MODULE SEED COUNT | distance A B | listings A B | demand3 SEED COUNT | zero_sizes SIZE | entries | passes SEED COUNT SIZE | lent SEED CALLS | lent_paths SEED CALLS | list");
+            eprintln!("usage: oracle make MODULE SEED COUNT | distance A B | listings A B | demand3 SEED COUNT | zero_sizes SIZE | entries | passes SEED COUNT SIZE | limits KIND | lent SEED CALLS | lent_paths SEED CALLS | list");
             std::process::exit(2);
         }
     }

@@ -4,7 +4,7 @@ use crate::make::{Maker, Random};
 use std::io::{BufWriter, Read, Write};
 
 /// The least output that question 13 asks for.
-const LEAST_OUTPUT: u32 = 65_536;
+pub const LEAST_OUTPUT: u32 = 65_536;
 
 /// As `passrun`: a pass file from standard input, its listing or a number to standard output.
 pub fn list() {
@@ -34,7 +34,7 @@ pub fn make(seed: u64, count: u64, long: bool) {
     }
 }
 
-fn write_case(out: &mut impl Write, file: &[u8], room: u32) {
+pub fn write_case(out: &mut impl Write, file: &[u8], room: u32) {
     let mut listing = vec![];
     let mut number = pass::list(file, &mut listing).err().unwrap_or(0) as u32;
     if number == 0 && room < LEAST_OUTPUT {

@@ -1,0 +1,313 @@
+// Limits that no stored case of the oracle reaches: the codes that C gets, with files of 1,365 and 1,366 records and files that fail two questions; lines and
+// numbers alone on a line; question 1 before the others; and public functions at limits that a link does not ask of them. Prints what each gives.
+use acked_bitrate_estimator::AckedBitrateEstimator;
+use arrival_group::ArrivalGroup;
+use arrival_group::InterGroupDelayDelta;
+use bandwidth::BandwidthUsage;
+use bandwidth::Bitrate;
+use bandwidth::DataSize;
+use bandwidth::OptionBitrate;
+use control::DelayController;
+use libc::STDOUT_FILENO;
+use link_state::Link;
+use time::OptionInstant;
+use time::TimeDelta;
+use time::Timestamp;
+use trendline::Delays;
+use trendline::TrendlineEstimator;
+
+fn text(t: &[u8]) {
+    io::write_all(STDOUT_FILENO, t);
+}
+
+fn number(n: u64) {
+    text(b" ");
+    io::print_decimal(STDOUT_FILENO, n);
+}
+
+fn yes_or_no(yes: bool) {
+    if yes {
+        text(b" yes");
+        return;
+    }
+    text(b" no");
+}
+
+// ---- the codes that C gets
+// Whether C gets a code for a file of so many bytes, of which the first record has a next and a kind, and the others are zero; record 1,365 is a timeout.
+fn code(bytes: usize, next: u8, next_high: u8, kind: u8, room: usize, expected: i64) {
+    let mut file = [0u8; 65_568];
+    let mut out = [0u8; 65_537];
+    file[0] = next;
+    file[1] = next_high;
+    file[4] = kind;
+    file[65_476] = 3;
+    if bytes > 65_568 {
+        return;
+    }
+    if room > 65_537 {
+        return;
+    }
+    yes_or_no(c_api::hornetpewter_list(&file[0..bytes], &mut out[0..room]) == expected);
+}
+
+fn lengths() {
+    text(b"whether C's code is the expected one: 0, 47, 48, 49 bytes:");
+    code(0, 0, 0, 3, 65_536, -10);
+    code(47, 0, 0, 3, 65_536, -10);
+    code(48, 0, 0, 3, 65_536, 32);
+    code(49, 0, 0, 3, 65_536, -10);
+    text(b"\n1,365 records less a byte, 1,365, a byte more, 1,366:");
+    code(65_519, 0, 0, 3, 65_536, -10);
+    code(65_520, 0, 0, 3, 65_536, 32);
+    code(65_521, 0, 0, 3, 65_536, -10);
+    code(65_568, 0, 0, 3, 65_536, -10);
+    text(b"\nnext 1,365 of 1,364 records, of 1,365; next 1,366:");
+    code(65_472, 0x55, 5, 3, 65_536, -12);
+    code(65_520, 0x55, 5, 3, 65_536, 67);
+    code(65_520, 0x56, 5, 3, 65_536, -12);
+    text(b"\n");
+}
+
+fn refusals() {
+    text(b"kind 0, 4; next 1; output of 65,535 bytes, 65,536, 65,537:");
+    code(48, 0, 0, 0, 65_536, -11);
+    code(48, 0, 0, 4, 65_536, -11);
+    code(48, 1, 0, 3, 65_536, -12);
+    code(48, 0, 0, 3, 65_535, -13);
+    code(48, 0, 0, 3, 65_536, 32);
+    code(48, 0, 0, 3, 65_537, 32);
+    text(b"\n10 and 11, 10 and 12, 10 and 13; 11 and 12, 11 and 13; 12 and 13:");
+    code(49, 0, 0, 4, 65_536, -10);
+    code(49, 1, 0, 3, 65_536, -10);
+    code(49, 0, 0, 3, 65_535, -10);
+    code(48, 1, 0, 4, 65_536, -11);
+    code(48, 0, 0, 4, 65_535, -11);
+    code(48, 1, 0, 3, 65_535, -12);
+    text(b"\n");
+}
+
+// ---- lines
+// What was written up to a place.
+fn shown(out: &[u8], end: usize) {
+    if end > out.len() {
+        return;
+    }
+    text(&out[0..end]);
+}
+
+fn line(out: &mut [u8], record: u64, refusal: u64, next_timeout: u64) {
+    let bits = 0x0123_4567_89ab_cdef;
+    let end = listing_line::put_line(out, 0, record, refusal, b'O', bits, next_timeout);
+    shown(out, end);
+}
+
+fn number_line(out: &mut [u8], n: u64) {
+    let end = listing_line::put_number(out, 0, n);
+    shown(out, end);
+}
+
+// The second of either has no room.
+fn lines() {
+    let mut out = [0u8; 80];
+    line(&mut [0u8; 25], 1, 0, 0);
+    line(&mut [0u8; 24], 2, 0, 0);
+    line(&mut out, 9, 9, 9);
+    line(&mut out, 10, 10, 10);
+    line(&mut out, 1365, 13, 1_000_000_000_025_000_000);
+    line(
+        &mut out,
+        9_999_999_999_999_999_999,
+        12,
+        18_446_744_073_709_551_615,
+    );
+    line(
+        &mut out,
+        10_000_000_000_000_000_000,
+        11,
+        999_999_999_999_999_999,
+    );
+    number_line(&mut [0u8; 3], 10);
+    number_line(&mut [0u8; 2], 11);
+    number_line(&mut out, 12);
+    number_line(&mut out, 13);
+    number_line(&mut out, 9);
+}
+
+// ---- question 1, asked first
+// A link whose estimate is below its limit.
+fn out_of_range() -> Link {
+    let acked = AckedBitrateEstimator::new(500_000_000, 150_000_000);
+    let control = DelayController::new(Bitrate(39_999.0));
+    Link { acked, control }
+}
+
+fn report(sequences: &[u64], sizes: &[u64], instants: &[u64], moment: u64) {
+    let called = link::report(
+        out_of_range(),
+        sequences,
+        sizes,
+        instants,
+        instants,
+        instants,
+        OptionBitrate::None,
+        moment,
+    );
+    let answer = called.answer;
+    number(answer.number());
+}
+
+fn timeout(moment: u64) {
+    let called = link::timeout(out_of_range(), moment);
+    let answer = called.answer;
+    number(answer.number());
+}
+
+// Whether a report that question 9 turns down leaves the estimator as it was.
+fn too_many_bytes() {
+    let judged = link::judge_report(
+        AckedBitrateEstimator::new(500_000_000, 150_000_000),
+        &[1, 2],
+        &[1, 2_147_483_647],
+        &[5, 6],
+        &[5, 6],
+        &[5, 6],
+        OptionBitrate::None,
+        0,
+    );
+    let acked = judged.acked;
+    let sum = acked.sum;
+    yes_or_no(sum.0 == 0);
+}
+
+fn first() {
+    text(b"1 and 4, 1 and 4 in disorder, 1 and 5, 1 and 6, 1 and 7, 1 and 9; timeout, 1 and 7:");
+    report(&[1, 2], &[1], &[5, 6], 0);
+    report(&[1, 2], &[1], &[6, 5], 0);
+    report(&[1], &[1], &[1_000_000_000_000_000_001], 0);
+    report(&[1], &[0], &[5], 0);
+    report(&[1], &[1], &[5], 1);
+    report(&[1], &[2_147_483_648], &[5], 0);
+    timeout(1);
+    text(b"\nquestion 9 leaves the byte sum:");
+    too_many_bytes();
+    text(b"\n");
+}
+
+// ---- public functions
+// Whether a packet so many ns after the first, sent and received, needs a new group.
+fn group(spacing: u64) {
+    let first = ArrivalGroup::new(0, 0);
+    yes_or_no(first.add_packet(spacing, spacing).need_new_group);
+}
+
+// Whether a modified trend takes a threshold to another, 100 ms after its last update.
+fn threshold(delay_threshold: f64, modified_trend: f64, expected: f64) {
+    let mut delays = Delays::new();
+    delays.delay_threshold = delay_threshold;
+    yes_or_no(delays.threshold(modified_trend, 100_000_000) == expected);
+}
+
+// Whether the threshold is updated by the delay that fills the history, after so many delays, and the hypothesis is then normal.
+fn variations(n: u64) {
+    let mut trendline = TrendlineEstimator::new();
+    trendline.history.len = 19;
+    trendline.delays.num_delay_variations = n;
+    let variation = InterGroupDelayDelta {
+        send_delta: TimeDelta::ZERO,
+        arrival_delta: TimeDelta::ZERO,
+        last_remote_recv_time: 0,
+    };
+    let after = trendline.add_delay_observation(variation, 0);
+    let updated = after.last_threshold_update;
+    match updated {
+        OptionInstant::None => text(b" no"),
+        OptionInstant::Some(_) => text(b" yes"),
+    }
+    let hypothesis = after.hypothesis();
+    match hypothesis {
+        BandwidthUsage::Overuse => text(b" no"),
+        BandwidthUsage::Normal => text(b" yes"),
+        BandwidthUsage::Underuse => text(b" no"),
+    }
+}
+
+// Equal, less, less or equal.
+fn instants(a: u64, b: u64) {
+    let s = Timestamp::from(a);
+    let t = Timestamp::from(b);
+    yes_or_no(s.eq(t));
+    yes_or_no(s.lt(t));
+    yes_or_no(s.le(t));
+}
+
+fn sum(a: i64, b: i64, expected: i64) {
+    yes_or_no(DataSize(a).add(DataSize(b)).0 == expected);
+}
+
+// The order of two packets, and entries of which the third is past the end: 0 after the last.
+fn order() {
+    let order = receive_order::order_by_receive_time(&[7, 5], &[0, 0], &[0, 0]);
+    let entries = receive_order::gather(&[10, 20], &[1, 0, 9], 3);
+    yes_or_no((order[0] == 1) & (order[1] == 0) & (order[2] == 0));
+    yes_or_no((entries[0] == 20) & (entries[1] == 10) & (entries[2] == 0) & (entries[3] == 0));
+}
+
+// How many bytes record k has, in a file of one record.
+fn record(k: usize) {
+    number(pass_records::record_at(&[0u8; 48], k).len() as u64);
+}
+
+fn delays() {
+    text(b"a new group 5 ms after the first less 1 ns, 5 ms after it, 1 ns more:");
+    group(4_999_999);
+    group(5_000_000);
+    group(5_000_001);
+    text(
+        b"\nthreshold 12.5 stays at a modified trend of the float above 27.5, and so does the float above 12.5; the float below 12.5 adapts at 27.5:",
+    );
+    threshold(12.5, 27.500000000000004, 12.5);
+    threshold(12.500000000000002, 27.500000000000004, 12.500000000000002);
+    threshold(12.499999999999998, 27.5, 25.549999999999997);
+    text(b"\nthreshold 599 goes to 600, and 7 to 6:");
+    threshold(599.0, 614.0, 600.0);
+    threshold(7.0, 0.0, 6.0);
+    text(b"\nthe threshold is updated and the hypothesis normal, after 1, 2 and 3 delays:");
+    variations(0);
+    variations(1);
+    variations(2);
+    text(b"\n");
+}
+
+fn quantities() {
+    text(
+        b"instants 5 and 5, 5 and 6, 6 and 5; 4 * 10^18 and a ns more, two ns more and a ns more:",
+    );
+    instants(5, 5);
+    instants(5, 6);
+    instants(6, 5);
+    instants(4_000_000_000_000_000_000, 4_000_000_000_000_000_001);
+    instants(4_000_000_000_000_000_002, 4_000_000_000_000_000_001);
+    text(b"\nsizes -2 and -1, the least and -1, the least and 0, -1 and 1:");
+    sum(-2, -1, -3);
+    sum(i64::MIN, -1, i64::MIN);
+    sum(i64::MIN, 0, i64::MIN);
+    sum(-1, 1, 0);
+    text(
+        b"\nthe order of two packets, entries in an order; bytes of records 0, 1, 2 of a file of one:",
+    );
+    order();
+    record(0);
+    record(1);
+    record(2);
+    text(b"\n");
+}
+
+fn main() {
+    lengths();
+    refusals();
+    lines();
+    first();
+    delays();
+    quantities();
+}
