@@ -1,0 +1,63 @@
+-- Calls on a link that is lent as words: what each answers, and what the words and the lent places then hold. Words that stand for no link, an unknown tag or
+-- another format, are met by question 1's number. A refusal leaves the words, and every lent place, as they were.
+use Prim.Native.Nat.{ℕ}
+use mathlib.Core.Bool.{cond}
+use mathlib.Core.List.{List}
+use lib.IntN.{ℤ, pos, negℤ}
+use lib.Ieee.{Float}
+use Rattle.bandwidth.specs.declared.Bitrate.{Bitrate}
+use Rattle.bandwidth.specs.declared.BandwidthUsage.{BandwidthUsage}
+use Rattle.link_state.specs.State.{inRange}
+use Rattle.link_state.specs.declared.Link.{Link}
+use Rattle.link_words.specs.LinkWords.{formed, hypothesisTag, ofWords, toWords}
+use Rattle.link.specs.Link.{Outcome, Reply, Started, accepted, estimate, hypothesis, nextTimeout, opened, opening, refused, turnedDown}
+use Rattle.link_runs.specs.Statement.{Call, call, threshold}
+
+-- ---- what C gets for a reply: its code, 0 or the opposite of the number, and what a lent place holds after it
+abbrev pub code : Reply → ℤ
+code (accepted e h t) = pos 0
+code (refused n) = negℤ (pos n)
+
+abbrev pub bitrateAfter : Reply → Float → Float
+bitrateAfter (accepted e h t) before = e
+bitrateAfter (refused n) before = before
+
+abbrev pub hypothesisAfter : Reply → ℕ → ℕ
+hypothesisAfter (accepted e h t) before = hypothesisTag h
+hypothesisAfter (refused n) before = before
+
+abbrev pub nextTimeoutAfter : Reply → ℕ → ℕ
+nextTimeoutAfter (accepted e h t) before = t
+nextTimeoutAfter (refused n) before = before
+
+-- the words of the link that was handed back
+abbrev pub wordsAfter : Reply → Link → List ℕ → List ℕ
+wordsAfter (accepted e h t) after before = toWords after
+wordsAfter (refused n) after before = before
+
+-- ---- opening
+abbrev pub openCode : Started → ℤ
+openCode (opened l) = pos 0
+openCode (turnedDown n) = negℤ (pos n)
+
+abbrev pub openWords : Started → List ℕ → List ℕ
+openWords (opened l) before = toWords l
+openWords (turnedDown n) before = before
+
+-- ---- report and timeout
+unfoldable pub replyTo : List ℕ → Call → Reply
+replyTo w k = cond (formed w) (call (ofWords w) k .reply) (refused 1)
+
+unfoldable pub after : List ℕ → Call → List ℕ
+after w k = wordsAfter (replyTo w k) (call (ofWords w) k .link) w
+
+-- ---- reading a link without a call
+unfoldable pub read : List ℕ → Reply
+read w =
+    let l = ofWords w in
+    cond (formed w) (cond (inRange l) (accepted (estimate l) (hypothesis l) (nextTimeout l)) (refused 1)) (refused 1)
+
+-- the threshold in ms, beside what the reply tells
+abbrev pub thresholdAfter : Reply → List ℕ → Float → Float
+thresholdAfter (accepted e h t) w before = threshold (ofWords w)
+thresholdAfter (refused n) w before = before
