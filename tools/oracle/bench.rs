@@ -1,10 +1,35 @@
 //! Times the proved library's listing beside the Rust's, from one driver, on the same pass files (tools/bench). The two listings must be equal.
+use crate::bwe::link::{self, Told};
 use crate::bwe::pass;
+use crate::bwe::AckedPacket;
 use crate::make::Random;
+use std::hint::black_box;
 use std::time::Instant;
 
 unsafe extern "C" {
     fn hornetpewter_list(file: *const u8, file_length: usize, out: *mut u8, out_length: usize) -> i64;
+    fn hornetpewter_open(link: *mut [u64; 100], start_bitrate: f64, initial_window: u64, window: u64) -> i64;
+    fn hornetpewter_report(
+        link: *mut [u64; 100],
+        sequences: *const u64,
+        sequences_length: usize,
+        sizes: *const u64,
+        sizes_length: usize,
+        sends: *const u64,
+        sends_length: usize,
+        remotes: *const u64,
+        remotes_length: usize,
+        receives: *const u64,
+        receives_length: usize,
+        has_probe: u32,
+        probe: f64,
+        now: u64,
+        bitrate: *mut f64,
+        hypothesis: *mut u32,
+        next_timeout: *mut u64,
+    ) -> i64;
+    fn hornetpewter_timeout(link: *mut [u64; 100], now: u64, bitrate: *mut f64, hypothesis: *mut u32, next_timeout: *mut u64) -> i64;
+    fn hornetpewter_read(link: *const [u64; 100], bitrate: *mut f64, hypothesis: *mut u32, next_timeout: *mut u64, threshold: *mut f64) -> i64;
 }
 
 const MS: u64 = 1_000_000;
@@ -84,6 +109,70 @@ fn ours(file: &[u8], out: &mut [u8]) -> usize {
     n as usize
 }
 
+/// The calls of a pass on a lent link, as a gateway makes them: packets gathered in five lists.
+fn live_ours(records: &[Record], mut told: impl FnMut(Told)) {
+    let mut link = [0; 100];
+    let (mut bitrate, mut hypothesis, mut next) = (0.0, 0, 0);
+    let (mut lists, mut n) = ([[0; 1024]; 5], 0);
+    unsafe {
+        hornetpewter_open(&mut link, 1e6, 500 * MS, 150 * MS);
+        for &(kind, size, sequence, send, remote, receive) in records {
+            if kind == 1 {
+                for (list, x) in lists.iter_mut().zip([sequence, size as u64, send, remote, receive]) {
+                    list[n] = x;
+                }
+                n += 1;
+                continue;
+            }
+            let code = if kind == 2 {
+                let [a, b, c, d, e] = lists.each_ref().map(|list| list.as_ptr());
+                let code = hornetpewter_report(&mut link, a, n, b, n, c, n, d, n, e, n, 0, 0.0, receive, &mut bitrate, &mut hypothesis, &mut next);
+                n = 0;
+                code
+            } else {
+                hornetpewter_timeout(&mut link, receive, &mut bitrate, &mut hypothesis, &mut next)
+            };
+            assert!(code == 0, "refused with {}", -code);
+            told((bitrate, hypothesis, next));
+        }
+    }
+}
+
+/// A packet for the Rust, or a call's moment: what a gateway with the Rust's objects has at hand.
+enum Event {
+    Packet(AckedPacket),
+    Report(u64),
+    Timeout(u64),
+}
+
+fn events(records: &[Record]) -> Vec<Event> {
+    let event = |&(kind, size, sequence, send, remote, receive): &Record| match kind {
+        1 => Event::Packet(pass::packet(sequence, size as u64, send, remote, receive)),
+        2 => Event::Report(receive),
+        _ => Event::Timeout(receive),
+    };
+    records.iter().map(event).collect()
+}
+
+/// The same calls on the Rust's objects.
+fn live_rust(events: &[Event], mut told: impl FnMut(Told)) {
+    let mut link = link::open(1e6, 500 * MS, 150 * MS).ok().unwrap();
+    let mut waiting = vec![];
+    for event in events {
+        match event {
+            Event::Packet(p) => {
+                waiting.push(*p);
+                continue;
+            }
+            Event::Report(now) => link.update(std::mem::take(&mut waiting), None, *now),
+            Event::Timeout(now) => {
+                link.timeout(*now);
+            }
+        }
+        told(link.told());
+    }
+}
+
 /// The least time of one listing, in ns.
 fn timed(turns: u32, mut list: impl FnMut()) -> f64 {
     let start = Instant::now();
@@ -109,11 +198,18 @@ pub fn turns(name: &str, side: &str, turns: u32) {
     let file = file(&records);
     let mut out = vec![0; 65_536];
     let mut theirs = Vec::with_capacity(65_536);
+    let events = events(&records);
     for _ in 0..turns {
         match side {
             "ours" => {
                 ours(&file, &mut out);
             }
+            "live" => live_ours(&records, |t| {
+                black_box(t);
+            }),
+            "live Rust" => live_rust(&events, |t| {
+                black_box(t);
+            }),
             _ => {
                 theirs.clear();
                 pass::list_plain(&file, &mut theirs);
@@ -134,15 +230,37 @@ pub fn times(rounds: u32) {
         let (mut a, mut b) = (f64::INFINITY, f64::INFINITY);
         for _ in 0..rounds {
             a = a.min(timed(20, || {
-                std::hint::black_box(ours(std::hint::black_box(&file), &mut out));
+                black_box(ours(black_box(&file), &mut out));
             }));
             b = b.min(timed(20, || {
                 theirs.clear();
-                pass::list_plain(std::hint::black_box(&file), std::hint::black_box(&mut theirs));
+                pass::list_plain(black_box(&file), black_box(&mut theirs));
             }));
         }
         let packets = records.iter().filter(|r| r.0 == 1).count();
         println!("{name}\t{packets}\t{}\t{a}\t{b}", records.len() - packets);
+    }
+    for (name, records) in passes() {
+        let events = events(&records);
+        let (mut said, mut theirs) = (vec![], vec![]);
+        live_ours(&records, |t| said.push(t));
+        live_rust(&events, |t| theirs.push(t));
+        assert!(said == theirs, "{name}: the live calls differ");
+        let (mut a, mut b) = (f64::INFINITY, f64::INFINITY);
+        for _ in 0..rounds {
+            a = a.min(timed(20, || {
+                live_ours(black_box(&records), |t| {
+                    black_box(t);
+                })
+            }));
+            b = b.min(timed(20, || {
+                live_rust(black_box(&events), |t| {
+                    black_box(t);
+                })
+            }));
+        }
+        let packets = records.iter().filter(|r| r.0 == 1).count();
+        println!("live: {name}\t{packets}\t{}\t{a}\t{b}", records.len() - packets);
     }
 }
 

@@ -3,7 +3,7 @@
 use super::acked_bitrate_estimator::AckedBitrateEstimator;
 use super::delay::control::DelayController;
 use super::drive::{at, bits, ns, since_zero, trend_words};
-use super::AckedPacket;
+use super::{AckedPacket, BandwidthUsage};
 use crate::rtp_::{Bitrate, DataSize, TwccSeq};
 
 const MOST_INSTANT: u64 = 1_000_000_000_000_000_000;
@@ -13,6 +13,9 @@ const MOST_BYTES: i64 = 2_147_483_647;
 pub type Words = [u64; 100];
 
 const FORMAT: u64 = 1;
+
+/// Estimate, hypothesis (0 overuse, 1 normal, 2 underuse), next timeout.
+pub type Told = (f64, u32, u64);
 
 /// Sequences, sizes, sends, remotes, receives.
 pub type Lists = [Vec<u64>; 5];
@@ -115,6 +118,16 @@ impl Link {
         }
         self.control.handle_timeout(self.acked.current_estimate(), at(now));
         0
+    }
+
+    /// What an accepted call tells.
+    pub fn told(&self) -> Told {
+        let hypothesis = match self.control.peek().0.hypothesis() {
+            BandwidthUsage::Overuse => 0,
+            BandwidthUsage::Normal => 1,
+            BandwidthUsage::Underuse => 2,
+        };
+        (self.control.last_estimate().unwrap().as_f64(), hypothesis, since_zero(self.control.poll_timeout()))
     }
 
     /// Whether a timeout would hand the acknowledged rate on.

@@ -114,6 +114,17 @@ pub fn list(file: &[u8], out: &mut impl Write) -> Result<(), u64> {
     Ok(())
 }
 
+/// A packet as the Rust has it; instants are ns.
+pub fn packet(sequence: u64, size: u64, send: u64, remote: u64, receive: u64) -> AckedPacket {
+    AckedPacket {
+        seq_no: TwccSeq(sequence),
+        size: DataSize::bytes(size as i64),
+        local_send_time: at(send),
+        remote_recv_time: at(remote),
+        local_recv_time: at(receive),
+    }
+}
+
 /// The same of a file whose calls are all accepted, as the Rust runs it: packets in one list, no question asked.
 pub fn list_plain(file: &[u8], out: &mut impl Write) {
     let mut link = open(1e6, 500_000_000, 150_000_000).ok().unwrap();
@@ -122,13 +133,7 @@ pub fn list_plain(file: &[u8], out: &mut impl Write) {
     while k != 0 {
         let r = record(file, k);
         match r.kind() {
-            1 => waiting.push(AckedPacket {
-                seq_no: TwccSeq(r.word(8)),
-                size: DataSize::bytes(r.size() as i64),
-                local_send_time: at(r.word(16)),
-                remote_recv_time: at(r.word(24)),
-                local_recv_time: at(r.word(32)),
-            }),
+            1 => waiting.push(packet(r.word(8), r.size(), r.word(16), r.word(24), r.word(32))),
             2 => {
                 link.update(std::mem::take(&mut waiting), r.probe(), r.word(32));
                 line(&link, k, 0, out);

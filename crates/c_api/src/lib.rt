@@ -167,19 +167,3 @@ pub extern "C" fn hornetpewter_read(
     *threshold = delays.delay_threshold;
     0
 }
-
-// ---- a pass file
-// Lists a pass file: the listing's length, or the opposite of the number of the question that the file fails.
-#[no_mangle]
-pub extern "C" fn hornetpewter_list(file: &[u8], out: &mut [u8]) -> i64
-    ensures { λ r. ⌜ r ≡ CApi.code (PassFile.list (now (file .entry)) (length (now (out .entry)))) ⌝ }
-    ensures { λ _. ⌜ now (out .exit) ≡ PassFile.output (now (file .entry)) (now (out .entry)) ⌝ }
-{
-    match pass_file::list(file, out) {
-        Listed::Listing(bytes) => bytes as i64,
-        Listed::BadLength => -10,
-        Listed::BadKind => -11,
-        Listed::BadNext => -12,
-        Listed::ShortOutput => -13,
-    }
-}

@@ -1,4 +1,4 @@
--- `c_api::hornetpewter_list` meets its contract: the answer that `list` gives, as a signed number. A listing's length fits, since a listing is short.
+-- `c_pass_file::hornetpewter_list` meets its contract: the answer that `list` gives, as a signed number. A listing's length fits, since a listing is short.
 use mathlib.Core.Path.{_≡_, _∙_}
 use mathlib.Core.List.{List}
 use Prim.Native.Nat.{ℕ, _≤_}
@@ -11,9 +11,9 @@ use Rattle.pass_file.specs.PassFile.{Answer, answer, list}
 use Rattle.pass_file.specs.Laws.{list-most}
 use Rattle.pass_file.specs.declared.Listed.{Listed}
 use Rattle.pass_file.specs.declared.Listed.the-variants.{Listing}
-use Rattle.c_api.specs.CApi.{code}
-use Rattle.c_api.proofs.hornetpewter_list.Statement.{statement}
-use Rattle.c_api.proofs.hornetpewter_list.Tie as tie
+use Rattle.c_pass_file.specs.CPassFile.{code}
+use Rattle.c_pass_file.proofs.hornetpewter_list.Statement.{statement}
+use Rattle.c_pass_file.proofs.hornetpewter_list.Tie as tie
 
 answered : {r arm : Listed} {a : Answer} → answer r ≡ a → r ≡ arm → code (answer arm) ≡ code a
 answered told e = cc
