@@ -68,6 +68,7 @@ use Rattle.link_runs.specs.Answered.{Answered, report-answered, timeout-answere
 use Rattle.link_runs.specs.Answered.Answered.{turnedDown, taken}
 
 use Rattle.link_words.specs.Laws.{AckedHeld, AllHeld, AverageHeld, FloatHeld, Held, LinkHeld, RateControlHeld, RateHeld, TrendlineHeld}
+use Rattle.lent_calls.specs.Statement.{CallHeld}
 
 -- ---- floats
 lit-held : (bits : ℕ) → Held (lit bits)
@@ -370,11 +371,6 @@ rtt-held m Duration.None h = h
 rtt-held m (Duration.Some rtt) h = update-average m (asSecsF64 rtt) (secs-held rtt) h
 
 -- ---- a call
--- a probe's rate is one of binary64, as any that C can hand over
-abbrev pub CallHeld : Call → Type 0
-CallHeld (report r) = RateHeld (r .probe)
-CallHeld (timeout now) = Unit {0}
-
 updated-held : (l : Link) (r : Report) → RateHeld (r .probe) → LinkHeld l → LinkHeld (L.updated l r)
 unfolding L.updated Control.update Control.updateEstimate Control.withRate Control.withPackets
 updated-held l r k h =

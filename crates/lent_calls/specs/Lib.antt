@@ -1,2 +1,4 @@
+pub mod Demand3
 pub mod Held
 pub mod LentCalls
+pub mod Statement
