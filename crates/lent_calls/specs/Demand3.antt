@@ -1,20 +1,19 @@
 -- The proof of demand 3 over words: of words that a link was stored to, each call is that of the link, and what it leaves are again a link's.
 use Prim.Native.Nat.{ℕ, zero, suc}
 use native.Mathlib.Omega.{arith}
-use mathlib.Core.Path.{_≡_, refl, sym, ap, ap₂, _∙_}
+use mathlib.Core.Path.{_≡_, refl, ap, ap₂, _∙_}
 use mathlib.Core.Bool.{true}
 use mathlib.Core.List.{List, [], _∷_, _++_}
-use lib.IntN.{pos, negsuc}
-use lib.Ieee.{nan}
+use lib.IntN.{pos}
 use Rattle.bandwidth.specs.declared.Bitrate.{Bitrate}
 use Rattle.recovery.specs.Recovery.{Change}
 use Rattle.questions.specs.Questions.{Question, firstNo, ofOpening}
 use Rattle.link_state.specs.State.{inRange}
 use Rattle.link_state.specs.declared.Link.{Link}
 use Rattle.link_words.specs.Laws.{Held, LinkHeld, words-formed, words-load}
-use Rattle.link_words.specs.LinkWords.{formed, ofWords, toWords}
+use Rattle.link_words.specs.LinkWords.{toWords}
 use Rattle.link.specs.Link as L
-use Rattle.link.specs.Link.{Outcome, Started, accepted, estimate, hypothesis, nextTimeout, opened, opening, startedUnless}
+use Rattle.link.specs.Link.{Outcome, accepted, estimate, hypothesis, nextTimeout, opened, opening, startedUnless}
 use Rattle.link_runs.specs.Statement as Runs
 use Rattle.link_runs.specs.Statement.{Call, call, run, threshold}
 use Rattle.link_runs.specs.Statement.Call.{report, timeout}
@@ -24,7 +23,7 @@ use Rattle.link_runs.specs.Demand3.{demand-3}
 use Rattle.link_runs.specs.InRange.{reached-in-range}
 use Rattle.lent_calls.specs.LentCalls.{after, openCode, openWords, read, replyTo, wordsAfter}
 use Rattle.lent_calls.specs.Held.{call-held, opened-held}
-use Rattle.lent_calls.specs.Statement.{CallHeld, CallsHeld, Demand3, IsRun, RangeAndRecovery, RunsOfTheLink, estimateRead, handedAll, runWords, thresholdRead}
+use Rattle.lent_calls.specs.Statement.{CallsHeld, Demand3, IsRun, RangeAndRecovery, RunsOfTheLink, estimateRead, handedAll, runWords, thresholdRead}
 
 -- ---- one call on a stored link
 module _ (l : Link) (h : LinkHeld l) where

@@ -1,9 +1,9 @@
 -- Values of a link are of their types (`LinkHeld`: a float is one of binary64, the byte sum an i64, an array has 20 elements). An accepted opening gives it, and
 -- every call keeps it, of any link whatever.
-use Prim.Native.Nat.{ℕ, zero, suc, _/_, _%_, _^_, _-_}
+use Prim.Native.Nat.{ℕ, zero, suc, _^_, _-_}
 use native.Mathlib.Omega.{arith}
 use mathlib.Core.Path.{_≡_, refl, _∙_}
-use mathlib.Core.Bool.{Bool, false, cond}
+use mathlib.Core.Bool.{false}
 use mathlib.Core.List.{List, [], _∷_, _++_}
 use borrow.Author.Tests.{ltb-false}
 use lib.Dec.{ltb, eqb}
@@ -11,13 +11,13 @@ use lib.IntN.{ℤ, pos, negsuc}
 use lib.Signed.{ltZ}
 use lib.ListN.{take, drop, replicate}
 use lib.Ieee as Ieee
-use lib.Ieee.{Float, binary64, isNan, ofInt}
+use lib.Ieee.{Float, binary64, isNan}
 use lib.Ieee.Bits.{ofBits-fits}
-use lib.Ieee.Fits.{add-fits, cond-fits, div-fits, mul-fits, ofInt-fits}
+use lib.Ieee.Fits.{add-fits, div-fits, mul-fits, ofInt-fits}
 use mir.Syntax.{w64}
 use mir.Val.{SFits}
 use Rattle.bool_laws.specs.Bools.{cases, chosen}
-use Rattle.float_order.specs.Binary64.{lit, div}
+use Rattle.float_order.specs.Binary64.{lit}
 use Rattle.float.specs.Float as Float
 use Rattle.sqrt.specs.Laws.{sqrt-fits}
 use Rattle.seconds.specs.Seconds.{asSecsF64}
@@ -55,6 +55,7 @@ use Rattle.rate_control.specs.declared.State.{State}
 use Rattle.rate_control.specs.declared.State.the-variants.{Increase, Hold, Decrease}
 use Rattle.rate_control.specs.declared.RateControl.{RateControl}
 use Rattle.control.specs.Control as Control
+use Rattle.control.specs.Laws.{secs-fits}
 use Rattle.control.specs.declared.DelayController.{DelayController}
 use Rattle.control.specs.declared.DelayDetector.{DelayDetector}
 use Rattle.link_state.specs.Laws.{Sized}
@@ -62,12 +63,12 @@ use Rattle.link_state.specs.declared.Link.{Link}
 use Rattle.questions.specs.Questions.{Report, firstNo, ofOpening, ordered}
 use Rattle.link.specs.Link as L
 use Rattle.link.specs.Link.{Outcome, opened, opening, startedUnless}
-use Rattle.link_runs.specs.Statement.{Call, call, run}
+use Rattle.link_runs.specs.Statement.{Call, call}
 use Rattle.link_runs.specs.Statement.Call.{report, timeout}
 use Rattle.link_runs.specs.Answered.{Answered, report-answered, timeout-answered}
 use Rattle.link_runs.specs.Answered.Answered.{turnedDown, taken}
 
-use Rattle.link_words.specs.Laws.{AckedHeld, AllHeld, AverageHeld, FloatHeld, Held, LinkHeld, RateControlHeld, RateHeld, TrendlineHeld}
+use Rattle.link_words.specs.Laws.{AckedHeld, AllHeld, AverageHeld, Held, LinkHeld, RateControlHeld, RateHeld, TrendlineHeld}
 use Rattle.lent_calls.specs.Statement.{CallHeld}
 
 -- ---- floats
@@ -81,10 +82,6 @@ min-held x y h k = chosen Held (isNan x) k (chosen Held (Ieee.lt y x) k h)
 clamp-held : (x low high : Float) → Held x → Held low → Held high → Held (Float.clamp x low high)
 unfolding Float.clamp
 clamp-held x low high h k l = chosen Held (Ieee.lt high (Float.raised x low)) l (chosen Held (Ieee.lt x low) k h)
-
-secs-held : (ns : ℕ) → Held (asSecsF64 ns)
-unfolding asSecsF64
-secs-held ns = add-fits binary64 (ofInt binary64 (pos (ns / 10 ^ 9))) (div (ofInt binary64 (pos (ns % 10 ^ 9))) (ofInt binary64 (pos (10 ^ 9))))
 
 -- ---- a moving average
 new-average : (factor : Float) → Held factor → AverageHeld (Average.new factor)
@@ -368,7 +365,7 @@ rate-held Rate.None (Rate.Some b) c now k o h = update-rate b now o (c .«rate_c
 rtt-held : (m : MovingAverage) (rtt : OptionDuration) → AverageHeld m → AverageHeld (Control.updateRtt m rtt)
 unfolding Control.updateRtt
 rtt-held m Duration.None h = h
-rtt-held m (Duration.Some rtt) h = update-average m (asSecsF64 rtt) (secs-held rtt) h
+rtt-held m (Duration.Some rtt) h = update-average m (asSecsF64 rtt) (secs-fits rtt) h
 
 -- ---- a call
 updated-held : (l : Link) (r : Report) → RateHeld (r .probe) → LinkHeld l → LinkHeld (L.updated l r)
