@@ -92,6 +92,7 @@ module _ (start : Bitrate) (initial window : ℕ) (l : Link) (f : Held (start .0
         words = run-words l ks c held;
         reply = λ k. rw (run-words l ks c held) (stored-reply (run l ks) (run-held l ks c held) k);
         reading = reading ks c;
+        threshold-reading = threshold-read ks c;
       }
 
   recovers : (ks : List Call) → CallsHeld ks → RangeAndRecovery (toWords l) ks

@@ -67,7 +67,6 @@ use Rattle.link_runs.specs.Statement.{Call, call}
 use Rattle.link_runs.specs.Statement.Call.{report, timeout}
 use Rattle.link_runs.specs.Answered.{Answered, report-answered, timeout-answered}
 use Rattle.link_runs.specs.Answered.Answered.{turnedDown, taken}
-
 use Rattle.link_words.specs.Laws.{AckedHeld, AllHeld, AverageHeld, Held, LinkHeld, RateControlHeld, RateHeld, TrendlineHeld}
 use Rattle.lent_calls.specs.Statement.{CallHeld}
 

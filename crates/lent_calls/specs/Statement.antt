@@ -1,5 +1,5 @@
 -- What is claimed of a link that is lent as words, as C and Rust hold one: calls on its words are a run of the link, its estimate cannot be jammed (demand 3), whatever
--- the words hold a call meets question 1 first and a refusal leaves them, and words that are not read tell nothing. The proofs are Demand3.antt and Lent.antt.
+-- the words hold a call meets question 1 first and a refusal leaves them, and words that are not read tell nothing. The proofs are Demand3.antt and AnyWords.antt.
 use mathlib.Core.Path.{_≡_}
 use mathlib.Core.Bool.{false, _&&_}
 use mathlib.Core.List.{List, [], _∷_, _++_}
@@ -21,7 +21,7 @@ use Rattle.link_words.specs.LinkWords.{formed, ofWords, toWords}
 use Rattle.link_words.specs.Reading.{Agree}
 use Rattle.link.specs.Link.{accepted, estimate, hypothesis, nextTimeout, opened, opening, refused}
 use Rattle.link_runs.specs.Statement as Runs
-use Rattle.link_runs.specs.Statement.{Call, call, run}
+use Rattle.link_runs.specs.Statement.{Call, call, run, threshold}
 use Rattle.link_runs.specs.Statement.Call.{report, timeout}
 use Rattle.lent_calls.specs.LentCalls.{after, bitrateAfter, openCode, openWords, read, replyTo, thresholdAfter}
 
@@ -39,25 +39,27 @@ abbrev pub CallsHeld : List Call → Type 0
 CallsHeld [] = Unit {0}
 CallsHeld (k ∷ ks) = CallHeld k × CallsHeld ks
 
--- ---- a run of calls on words is a run of the link
--- After it the words are those of the link. The next call gets the link's reply. Reading is accepted, and tells the link's estimate, hypothesis and next timeout.
-pub record IsRun (l : Link) (calls : List Call) : Type 0 where
-  pub words : runWords (toWords l) calls ≡ toWords (run l calls)
-  pub reply : (k : Call) → replyTo (runWords (toWords l) calls) k ≡ call (run l calls) k .reply
-  pub reading : read (runWords (toWords l) calls) ≡ accepted (estimate (run l calls)) (hypothesis (run l calls)) (nextTimeout (run l calls))
-
-abbrev pub RunsOfTheLink : Type 0
-RunsOfTheLink =
-    (start : Bitrate) (initial window : ℕ) (l : Link) → Held (start .0) → opening start initial window ≡ opened l → (calls : List Call) → CallsHeld calls → IsRun l calls
-
--- ---- demand 3, as crates/link_runs/specs/Statement.antt has it of a link
--- what reading leaves in a lent place that holds a NaN: a refusal would leave the NaN, which is in no range
+-- ---- what reading leaves in a lent place that holds a NaN: a refusal would leave the NaN, which is in no range
 abbrev pub estimateRead : List ℕ → Float
 estimateRead w = bitrateAfter (read w) nan
 
 abbrev pub thresholdRead : List ℕ → Float
 thresholdRead w = thresholdAfter (read w) w nan
 
+-- ---- a run of calls on words is a run of the link
+-- After it the words are those of the link, and the next call gets the link's reply. Reading is accepted, and tells the link's estimate, hypothesis, next timeout and
+-- threshold.
+pub record IsRun (l : Link) (calls : List Call) : Type 0 where
+  pub words : runWords (toWords l) calls ≡ toWords (run l calls)
+  pub reply : (k : Call) → replyTo (runWords (toWords l) calls) k ≡ call (run l calls) k .reply
+  pub reading : read (runWords (toWords l) calls) ≡ accepted (estimate (run l calls)) (hypothesis (run l calls)) (nextTimeout (run l calls))
+  pub threshold-reading : thresholdRead (runWords (toWords l) calls) ≡ threshold (run l calls)
+
+abbrev pub RunsOfTheLink : Type 0
+RunsOfTheLink =
+    (start : Bitrate) (initial window : ℕ) (l : Link) → Held (start .0) → opening start initial window ≡ opened l → (calls : List Call) → CallsHeld calls → IsRun l calls
+
+-- ---- demand 3, as crates/link_runs/specs/Statement.antt has it of a link
 -- what each call hands to the rate control of the link that the words stand for
 abbrev pub handedAll : List ℕ → List Call → List Change
 handedAll w [] = []
@@ -100,7 +102,7 @@ pub record SameAnswers (v w : List ℕ) : Type 0 where
   pub reply : (k : Call) → replyTo v k ≡ replyTo w k
   pub stored : (k : Call) (e : Float) (h : BandwidthUsage) (t : ℕ) → replyTo v k ≡ accepted e h t → after v k ≡ after w k
   pub reading : read v ≡ read w
-  pub threshold : thresholdRead v ≡ thresholdRead w
+  pub threshold-reading : thresholdRead v ≡ thresholdRead w
 
 -- at every point of a run
 abbrev pub UnreadWords : Type 0

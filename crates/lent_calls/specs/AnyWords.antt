@@ -64,7 +64,7 @@ module _ (v w : List ℕ) (s : Alike v w) where
   same-answers : SameAnswers v w
   unfolding after
   same-answers =
-      record { reply = reply-alike; stored = λ k e h t a. rw (← reply-alike k, a, loads-alike); reading = read-alike; threshold = threshold-alike }
+      record { reply = reply-alike; stored = λ k e h t a. rw (← reply-alike k, a, loads-alike); reading = read-alike; threshold-reading = threshold-alike }
 
   -- a refused call leaves both, an accepted one stores the same
   after-alike : (k : Call) → Alike (after v k) (after w k)
