@@ -121,7 +121,7 @@ trips = record { factor-in = in-closed (unfold floats in tt); limit-in = in-clos
 abbrev pub KeptRtt : MovingAverage → Type 0
 KeptRtt m = Average.Kept rttSmoothingFactor mostRoundTrip m
 
-secs-fits : (n : ℕ) → T (fits binary64 (asSecsF64 n))
+pub secs-fits : (n : ℕ) → T (fits binary64 (asSecsF64 n))
 unfolding asSecsF64
 secs-fits n = add-fits binary64 (ofInt binary64 (pos (n / 10 ^ 9))) (div binary64 (ofInt binary64 (pos (n % 10 ^ 9))) (ofInt binary64 (pos (10 ^ 9))))
 

@@ -1,1 +1,5 @@
+pub mod AnyWords
+pub mod Demand3
+pub mod Held
 pub mod LentCalls
+pub mod Statement

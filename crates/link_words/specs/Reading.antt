@@ -13,7 +13,7 @@ use Rattle.time.specs.declared.OptionDuration.the-variants as Duration
 use Rattle.time.specs.declared.TimeDelta.the-variants as Delta
 use Rattle.arrival_group.specs.declared.OptionGroup.the-variants as G
 use Rattle.trendline.specs.declared.OptionOveruse.the-variants as Over
-use Rattle.link_words.specs.LinkWords.{acked, average, bitrate, control, delays, duration, floats, group, groups, history, instant, ofWords, overuse, rateControl, timeDelta, trendline}
+use Rattle.link_words.specs.LinkWords.{acked, average, bitrate, control, delays, duration, floats, formed, group, groups, history, instant, ofWords, overuse, rateControl, timeDelta, trendline}
 
 -- options: the word of the tag, and the first and the last word of the value
 unfoldable pub options : List (ℕ × ℕ × ℕ)
@@ -93,6 +93,13 @@ overuse-alike a b m n s t x y e h₁ h₂ h₃ =
     both-hold : (s t : Bool) → T s → T t → T (s && t)
     both-hold true t p q = q
     both-hold false t p q = p
+
+tag-alike : (a b x y : ℕ) → a ≡ b → (T (not (eqb a 0)) → x ≡ y) → (eqb a 0 || leb x 3) ≡ (eqb b 0 || leb y 3)
+tag-alike a b x y e h = subst (λ (k : ℕ). (eqb a 0 || leb x 3) ≡ (eqb k 0 || leb y 3)) e (at (eqb a 0) h)
+  where
+    at : (t : Bool) → (T (not t) → x ≡ y) → (t || leb x 3) ≡ (t || leb y 3)
+    at true h = refl
+    at false h = rw (h tt)
 
 -- n words from word i on are all read
 readAll : List ℕ → ℕ → ℕ → Bool
@@ -189,3 +196,28 @@ module _ (v w : List ℕ) (same : Agree v w) where
   pub words-alike : ofWords v ≡ ofWords w
   unfolding ofWords
   words-alike = simp (acked-alike, control-alike)
+
+  -- and, of one format, are formed alike
+  pub formed-alike : getD v 0 0 ≡ getD w 0 0 → formed v ≡ formed w
+  unfolding reads options present
+  formed-alike format =
+      rw (
+        tag-alike (getD v 70 0) (getD w 70 0) (getD v 72 0) (getD w 72 0) (same .at 70 tt) (λ p. same .at 72 p),
+        format,
+        same .at 3 tt,
+        same .at 8 tt,
+        same .at 10 tt,
+        same .at 12 tt,
+        same .at 17 tt,
+        same .at 22 tt,
+        same .at 70 tt,
+        same .at 74 tt,
+        same .at 76 tt,
+        same .at 77 tt,
+        same .at 81 tt,
+        same .at 84 tt,
+        same .at 88 tt,
+        same .at 90 tt,
+        same .at 93 tt,
+        same .at 98 tt,
+      )
