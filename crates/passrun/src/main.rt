@@ -27,7 +27,7 @@ fn print(file: &[u8], out: &mut [u8]) -> usize
 }
 
 // One byte more than the longest file is read, so that a longer one is refused. A file that does not fill that has to end where the reading stopped: a read that
-// fails is no end, and then nothing is printed.
+// fails is no end, and then nothing is printed. A program has no exit status, so what failed is said on standard error; where a write fails, a part may be printed.
 fn main() {
     let mut input = [0u8; MOST_BYTES + 1];
     let mut out = [0u8; pass_file::LEAST_OUTPUT];
@@ -40,5 +40,10 @@ fn main() {
         }
     }
     let bytes = print(&input[0..n], &mut out);
-    io::write_all(STDOUT_FILENO, &out[0..bytes]);
+    if !io::write_all(STDOUT_FILENO, &out[0..bytes]) {
+        io::write_all(
+            STDERR_FILENO,
+            b"passrun: standard output cannot be written\n",
+        );
+    }
 }
