@@ -62,8 +62,9 @@
 //!
 //! A [`Link`] is 100 numbers and nothing else: `Send`, `Sync`, free to be moved, cloned, stored and
 //! loaded again. The library has no state of its own, so links can be called on as many threads as
-//! there are links. Nothing is allocated. A report takes @REPORT@ of stack, of which 41,000 bytes are the
-//! packets' copy, a timeout @TIMEOUT@, [`list`] @LIST@.
+//! there are links. Nothing is allocated. A thread with a stack of 128 KiB can make every call: a
+//! report takes some 95,000 bytes of it, of which 41,000 are a copy of the packets, [`list`] 61,000,
+//! the other calls less than 8,000.
 #![no_std]
 #![deny(missing_docs)]
 #![deny(unsafe_code)]
