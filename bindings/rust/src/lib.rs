@@ -58,6 +58,13 @@
 //!   words that are loaded can be any ([`Link::from_words`]); a link that was opened and called never
 //!   meets it. Open the link anew.
 //!
+//! # The archive
+//!
+//! `build.rs` looks for the proved archive, libhornetpewter.a, in the folder that the environment
+//! variable `HORNETPEWTER_LIB_DIR` names; without it in `lib/` of this crate, then in `target/dist/lib`
+//! of the repository. `tools/dist` in the repository makes it, and a copy of this crate that has it.
+//! The archive needs `memcpy`, `memmove` and `memset`, which every Rust program has.
+//!
 //! # Threads, memory and stack
 //!
 //! A [`Link`] is 100 numbers and nothing else: `Send`, `Sync`, free to be moved, cloned, stored and

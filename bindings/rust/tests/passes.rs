@@ -1,4 +1,5 @@
 //! Pass files by live calls, beside their listings.
+#[path = "../examples/live/pass.rs"]
 mod pass;
 
 use hornetpewter::{LEAST_OUTPUT, Link, list};

@@ -8,7 +8,6 @@
 //! listed and put through the live calls, both equal to the Rust's listing, the calls line by line;
 //! one that it refuses is refused by `list` with the same number. Prints the counts, and exits with 1
 //! where there is a difference or no case.
-#[path = "../tests/pass/mod.rs"]
 mod pass;
 
 use std::io::{self, BufReader, Read};
