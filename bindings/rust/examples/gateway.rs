@@ -1,17 +1,19 @@
 //! A gateway with str0m's delay estimator in place, and what changes when it calls this one.
 //!
-//! str0m's `SendSideBandwidthEstimator` (src/bwe/mod.rs) keeps an `AckedBitrateEstimator` and a
-//! `DelayController`. One `Estimator`, below, takes the place of the two; the loss controller, probes
-//! and all else stay, and go by the estimate as before.
+//! str0m's `SendSideBandwidthEstimator` (src/bwe/mod.rs) keeps a `DelayController` and an
+//! `AckedBitrateEstimator` that feeds it. One `Estimator`, below, takes the place of the two. Probes,
+//! loss controller and all else stay and go by the estimate as before. (The loss controller is told
+//! the acknowledged rate too, which a link keeps to itself: who has the one keeps an
+//! `AckedBitrateEstimator` for it.)
 //!
 //! | str0m's code | with `Estimator` |
 //! |---|---|
-//! | `update`: sort the acked packets, hand each one to `AckedBitrateEstimator::update`, then call `DelayController::update(&acked, acked_bitrate, probe_result, now)` | `update(&acked, probe_result, now)`: a link puts packets in order and keeps the acknowledged rate itself |
+//! | `update`: sort the acked packets, hand each one to `AckedBitrateEstimator::update`, then call `DelayController::update(&acked, acked_bitrate, probe_result, now)` | `update(&acked, probe_result, now)`: a link puts packets in order and has the acknowledged rate |
 //! | `handle_timeout`: `DelayController::handle_timeout(acked_bitrate, now)` | `handle_timeout(now)` |
 //! | `poll_timeout`, `last_estimate`, `is_overusing` of `DelayController` | the same |
 //! | an `Instant` of the local clock: send, local receive, now | ns since an origin of the local clock; now a whole ms |
 //! | an `Instant` made of the other side's receive times | ns since an origin of the remote clock |
-//! | `assert!`, `expect`, or an estimate that never recovers | a `Refusal`: the link is as it was |
+//! | packets of size 0 at the start: the estimate never recovers | the report is refused, and the link is as it was |
 //!
 //! `cargo run --example gateway` runs 20 simulated seconds: a camera of 1.5 Mbps over a line of
 //! 2 Mbps that has 0.4 Mbps left from 8 to 10 s.
@@ -183,7 +185,7 @@ impl Traffic {
                 size: if empty { 0 } else { 1200 },
                 local_send_time: send,
                 remote_recv_time: arrival + REMOTE_AHEAD,
-                local_recv_time: arrival,
+                local_recv_time: send, // set when the feedback comes in
             };
             self.on_the_way.push_back((packet, arrival));
             self.sent += 1;
@@ -226,12 +228,13 @@ fn show(start: Instant, now: Instant, estimator: &Estimator) {
     );
 }
 
-/// A feedback message. A refusal has left the link as it was, so the gateway notes it and goes on.
+/// A feedback message. A refusal has left the link as it was, so the gateway notes it and goes on; this
+/// one's cure is to count whole packets.
 fn report(estimator: &mut Estimator, acked: &[AckedPacket], now: Instant, counts: &mut Counts) {
     counts.reports += 1;
     if let Err(refusal) = estimator.update(acked, None, now) {
         counts.refused += 1;
-        println!("a report of {} packets: {refusal}", acked.len());
+        println!("report {} refused: {refusal}", counts.reports);
     }
 }
 
