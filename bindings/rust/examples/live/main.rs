@@ -1,7 +1,8 @@
 //! Pass files through the live calls, beside the Rust's listings: the cases of the oracle, from
 //! standard input.
 //!
-//!     target/oracle/oracle passes SEED COUNT long | cargo run --release --example live
+//!     export CARGO_TARGET_DIR=target/cargo
+//!     target/oracle/oracle passes SEED COUNT long | cargo run --release --manifest-path bindings/rust/Cargo.toml --example live
 //!
 //! A case is five words of 4 bytes, little-endian (length of the file, room of the output, number,
 //! length of the listing, linked packets), the file and the listing. A file that the Rust accepts is
