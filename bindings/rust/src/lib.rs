@@ -1,7 +1,7 @@
 //! The delay estimator of str0m (WebRTC bandwidth estimation) as a library that is proved: every call
-//! gets an answer and does nothing undefined, every answer equals the Rust's to the bit (its one
-//! `powf` by a table), and no list of calls can jam an estimate. This crate calls it safely. It needs
-//! no other crate, no `std` and no allocator.
+//! gets an answer and does nothing undefined, every answer equals str0m's to the bit (its one `powf`
+//! by a table), and no list of calls can jam an estimate. This crate calls it safely. It needs no
+//! other crate, no `std` and no allocator.
 //!
 //! A [`Link`] is opened, then handed the reports and timeouts of one connection as they come. Each
 //! call answers with an [`Estimate`], or with a [`Refusal`] and leaves the link as it was.
@@ -34,7 +34,7 @@
 //!
 //! An instant must not lie before its clock's origin, so choose the origins early enough: the instant
 //! at which the program started, or an hour before the first remote instant. The clocks may go back
-//! and calls may come in any order; the answers are then what the Rust's are.
+//! and calls may come in any order; the answers are then what str0m's are.
 //!
 //! `now` is also a whole ms: [`whole_ms`] rounds it up. [`whole_ns`] gives the ns of a `Duration`.
 //!
@@ -49,8 +49,8 @@
 //! # Refusals
 //!
 //! A call is judged by numbered questions, in their order; the first no turns it down. A refused call
-//! has no effect at all: the next one finds the link, and everything that was lent, as they were. No
-//! refusal is final, so a gateway may log one and go on. Two deserve a look:
+//! has no effect at all: the next one finds the link, and everything that was lent, as they were. So a
+//! gateway may log a refusal and go on. Two deserve a look:
 //!
 //! - [`Refusal::BadSize`]: a packet of size 0 was counted, where the header has bytes too. Count whole
 //!   packets.
@@ -70,8 +70,8 @@
 //! A [`Link`] is 100 numbers and nothing else: `Send`, `Sync`, free to be moved, cloned, stored and
 //! loaded again. The library has no state of its own, so links can be called on as many threads as
 //! there are links. Nothing is allocated. A thread with a stack of 128 KiB can make every call: a
-//! report takes some 95,000 bytes of it, of which 41,000 are a copy of the packets, [`list`] 61,000,
-//! the other calls less than 8,000.
+//! report takes some 95,000 bytes of it (104,000 unoptimised), of which 41,000 are a copy of the
+//! packets, [`list`] 61,000, the other calls less than 8,000.
 #![no_std]
 #![deny(missing_docs)]
 #![deny(unsafe_code)]
