@@ -3,10 +3,13 @@
 use Prim.Native.Nat.{ℕ}
 use mathlib.Core.Bool.{cond}
 use mathlib.Core.List.{List}
+use lib.Dec.{eqb}
 use lib.IntN.{ℤ, pos, negℤ}
 use lib.Ieee.{Float}
 use Rattle.bandwidth.specs.declared.Bitrate.{Bitrate}
 use Rattle.bandwidth.specs.declared.BandwidthUsage.{BandwidthUsage}
+use Rattle.bandwidth.specs.declared.OptionBitrate.{OptionBitrate}
+use Rattle.bandwidth.specs.declared.OptionBitrate.the-variants as Rate
 use Rattle.link_state.specs.State.{inRange}
 use Rattle.link_state.specs.declared.Link.{Link}
 use Rattle.link_words.specs.LinkWords.{formed, hypothesisTag, ofWords, toWords}
@@ -45,6 +48,10 @@ openWords (opened l) before = toWords l
 openWords (turnedDown n) before = before
 
 -- ---- report and timeout
+-- a report's probe: a flag, which is 0 where there is none, and its result in bps
+unfoldable pub probeResult : ℕ → Float → OptionBitrate
+probeResult flag result = cond (eqb flag 0) Rate.None (Rate.Some (record { 0 = result }))
+
 unfoldable pub replyTo : List ℕ → Call → Reply
 replyTo w k = cond (formed w) (call (ofWords w) k .reply) (refused 1)
 

@@ -4,7 +4,7 @@ use mathlib.Core.List.{List, [], _∷_, _++_, map, append-nil}
 use Prim.Native.Nat.{ℕ, suc, _+_}
 use native.Mathlib.Nat.{add-zero}
 use native.Mathlib.Omega.{arith}
-use lib.ListN.{length, set, drop-of-length-le, replicate, length-append, length-map}
+use lib.ListN.{length, set, drop-of-length-le, length-append, length-map}
 use lib.Seq.{sets, sets-eq}
 use lib.Ieee.{Float, binary64, toBits}
 use Rattle.trendline.specs.declared.History.{History}
@@ -105,8 +105,8 @@ module _ (c : DelayController) (trendline : length (trendlineWords (c .«trendli
       ∙ join (groups ++ trend ++ rate) end w 10 92 (omega (arith, three))
 
 module _ (l : Link) (control : length (controlWords (l .control)) ≡ 90) where
-  pub words-stored : sets (sets (set (replicate 100 0) 0 1) 1 (ackedWords (l .acked))) 10 (controlWords (l .control)) ≡ toWords l
+  pub words-stored : (w : List ℕ) → length w ≡ 100 → sets (sets (set w 0 1) 1 (ackedWords (l .acked))) 10 (controlWords (l .control)) ≡ toWords l
   unfolding toWords ackedWords
-  words-stored =
-      join (ackedWords (l .acked)) (controlWords (l .control)) (set (replicate 100 0) 0 1) 1 10 refl
-      ∙ whole (toWords l) (replicate 100 0) (omega (arith, control))
+  words-stored w e =
+      join (ackedWords (l .acked)) (controlWords (l .control)) (set w 0 1) 1 10 refl
+      ∙ whole (toWords l) w (omega (arith, control, e))

@@ -688,6 +688,21 @@ fn store_control(words: &mut [u64; 100], c: DelayController)
     store_round_trip(words, rtt, c.next_timeout, last);
 }
 
+// Does nothing: that lent words are 100 is known of their value only.
+fn sized(words: [u64; 100])
+    ensures { λ _. ⌜ length words ≡ 100 ⌝ }
+{}
+
+// Stores a link's two parts, whatever the words were.
+pub fn store(words: &mut [u64; 100], acked: AckedBitrateEstimator, control: DelayController)
+    ensures { λ _. ⌜ now (words .exit) ≡ Words.toWords (record { acked = acked; control = control }) ⌝ }
+{
+    sized(*words);
+    words[0] = 1;
+    store_acked(words, acked);
+    store_control(words, control);
+}
+
 // The words of a link.
 pub fn words(link: Link) -> [u64; 100]
     ensures { λ r. ⌜ r ≡ Words.toWords link ⌝ }
@@ -695,8 +710,6 @@ pub fn words(link: Link) -> [u64; 100]
     let acked = link.acked;
     let control = link.control;
     let mut words = [0u64; 100];
-    words[0] = 1;
-    store_acked(&mut words, acked);
-    store_control(&mut words, control);
+    store(&mut words, acked, control);
     words
 }
