@@ -1,5 +1,5 @@
-// Limits that no stored case of the oracle reaches: the codes that C gets, with files of 1,365 and 1,366 records and files that fail two questions; lines and
-// numbers alone on a line; question 1 before the others; and public functions at limits that a link does not ask of them. Prints what each gives.
+// Limits that no stored case of the oracle reaches: the codes that C gets, with files of 1,365 and 1,366 records and files that fail two questions, and with
+// lent links; lines and numbers alone on a line; question 1 before the others; and public functions at limits that a link does not ask of them. Prints what each gives.
 use acked_bitrate_estimator::AckedBitrateEstimator;
 use arrival_group::ArrivalGroup;
 use arrival_group::InterGroupDelayDelta;
@@ -48,7 +48,7 @@ fn code(bytes: usize, next: u8, next_high: u8, kind: u8, room: usize, expected: 
     if room > 65_537 {
         return;
     }
-    yes_or_no(c_api::hornetpewter_list(&file[0..bytes], &mut out[0..room]) == expected);
+    yes_or_no(c_pass_file::hornetpewter_list(&file[0..bytes], &mut out[0..room]) == expected);
 }
 
 fn lengths() {
@@ -84,6 +84,270 @@ fn refusals() {
     code(48, 1, 0, 4, 65_536, -11);
     code(48, 0, 0, 4, 65_535, -11);
     code(48, 1, 0, 3, 65_535, -12);
+    text(b"\n");
+}
+
+// ---- C's calls on a lent link
+fn same(a: &[u64; 100], b: &[u64; 100]) -> bool {
+    let mut same = true;
+    let mut i = 0;
+    while i < 100 {
+        same = same & (a[i] == b[i]);
+        i += 1;
+    }
+    same
+}
+
+// Whether an opening gives C a code, and words are stored only with 0.
+fn open(start_bitrate: f64, initial_window: u64, window: u64, expected: i64) {
+    let before = [7u64; 100];
+    let mut link = [7u64; 100];
+    let code = c_api::hornetpewter_open(&mut link, start_bitrate, initial_window, window);
+    if code == 0 {
+        yes_or_no((expected == 0) & (link[0] == 1) & !same(&link, &before));
+        return;
+    }
+    yes_or_no((code == expected) & same(&link, &before));
+}
+
+fn openings() {
+    text(
+        b"C opens a link at the float below 40,000 bps, 40,000, 10^10, the float above it, 0 bps with windows of 0:",
+    );
+    open(39_999.99999999999, 500_000_000, 150_000_000, -2);
+    open(40_000.0, 500_000_000, 150_000_000, 0);
+    open(10_000_000_000.0, 500_000_000, 150_000_000, 0);
+    open(10_000_000_000.000002, 500_000_000, 150_000_000, -2);
+    open(0.0, 0, 0, -2);
+    text(
+        b"\nwith windows of 1 ms and 10 s, 0 and 1 ms, 1 ms and 0, 1 ms and a ns more, 10 s and 1 ms more:",
+    );
+    open(1_000_000.0, 1_000_000, 10_000_000_000, 0);
+    open(1_000_000.0, 0, 1_000_000, -3);
+    open(1_000_000.0, 1_000_000, 0, -3);
+    open(1_000_000.0, 1_000_001, 1_000_000, -3);
+    open(1_000_000.0, 1_000_000, 10_001_000_000, -3);
+    text(b"\n");
+}
+
+// The words of a link at 1,000,000 bps, with one of them set.
+fn lent(word: usize, value: u64) -> [u64; 100] {
+    let mut link = [0u64; 100];
+    c_api::hornetpewter_open(&mut link, 1_000_000.0, 500_000_000, 150_000_000);
+    if word < 100 {
+        link[word] = value;
+    }
+    link
+}
+
+// Whether a call gave C a code, and left what it has to: after 0 what a read of the link tells, else all as it was, 7 at the lent places.
+fn left(
+    code: i64,
+    expected: i64,
+    before: &[u64; 100],
+    link: &[u64; 100],
+    bitrate: f64,
+    hypothesis: u32,
+    next_timeout: u64,
+) {
+    let mut rate = 7.0;
+    let mut tag = 7;
+    let mut next = 7;
+    let mut threshold = 7.0;
+    if code == 0 {
+        let read = c_api::hornetpewter_read(link, &mut rate, &mut tag, &mut next, &mut threshold);
+        yes_or_no(
+            (expected == 0)
+                & (read == 0)
+                & (bitrate == rate)
+                & (hypothesis == tag)
+                & (next_timeout == next),
+        );
+        return;
+    }
+    yes_or_no(
+        (code == expected)
+            & same(link, before)
+            & (bitrate == rate)
+            & (hypothesis == tag)
+            & (next_timeout == next),
+    );
+}
+
+fn lent_report(
+    sequences: &[u64],
+    sizes: &[u64],
+    instants: &[u64],
+    has_probe: u32,
+    probe: f64,
+    moment: u64,
+    expected: i64,
+) {
+    let before = lent(0, 1);
+    let mut link = before;
+    let mut bitrate = 7.0;
+    let mut hypothesis = 7;
+    let mut next_timeout = 7;
+    let code = c_api::hornetpewter_report(
+        &mut link,
+        sequences,
+        sizes,
+        instants,
+        instants,
+        instants,
+        has_probe,
+        probe,
+        moment,
+        &mut bitrate,
+        &mut hypothesis,
+        &mut next_timeout,
+    );
+    left(
+        code,
+        expected,
+        &before,
+        &link,
+        bitrate,
+        hypothesis,
+        next_timeout,
+    );
+}
+
+fn lent_timeout(word: usize, value: u64, moment: u64, expected: i64) {
+    let before = lent(word, value);
+    let mut link = before;
+    let mut bitrate = 7.0;
+    let mut hypothesis = 7;
+    let mut next_timeout = 7;
+    let code = c_api::hornetpewter_timeout(
+        &mut link,
+        moment,
+        &mut bitrate,
+        &mut hypothesis,
+        &mut next_timeout,
+    );
+    left(
+        code,
+        expected,
+        &before,
+        &link,
+        bitrate,
+        hypothesis,
+        next_timeout,
+    );
+}
+
+fn reports() {
+    text(b"C's code for a report that is accepted, and that 4 to 9 turn down:");
+    lent_report(&[1, 2], &[1, 1], &[5, 6], 0, 0.0, 0, 0);
+    lent_report(&[1, 2], &[1], &[5, 6], 0, 0.0, 0, -4);
+    lent_report(&[1], &[1], &[1_000_000_000_000_000_001], 0, 0.0, 0, -5);
+    lent_report(&[1], &[0], &[5], 0, 0.0, 0, -6);
+    lent_report(&[1], &[1], &[5], 0, 0.0, 1, -7);
+    lent_report(&[1], &[1], &[5], 1, -1.0, 0, -8);
+    lent_report(&[1], &[2_147_483_648], &[5], 0, 0.0, 0, -9);
+    text(
+        b"\nin disorder, accepted, 4 and 9; a probe of -1 bps with the flags 0 and 2, of 0 and of 10^14 bps:",
+    );
+    lent_report(&[1, 2], &[1, 1], &[6, 5], 0, 0.0, 0, 0);
+    lent_report(&[1, 2], &[1], &[6, 5], 0, 0.0, 0, -4);
+    lent_report(&[1, 2], &[1, 2_147_483_647], &[6, 5], 0, 0.0, 0, -9);
+    lent_report(&[1], &[1], &[5], 0, -1.0, 0, 0);
+    lent_report(&[1], &[1], &[5], 2, -1.0, 0, -8);
+    lent_report(&[1], &[1], &[5], 1, 0.0, 0, 0);
+    lent_report(&[1], &[1], &[5], 2, 100_000_000_000_000.0, 0, 0);
+    text(b"\n");
+}
+
+fn timeouts() {
+    text(
+        b"for a timeout at 0 with the formats 1, 0 and 2; at 1 ns, with format 2 too; at 10^18, 1 ms more:",
+    );
+    lent_timeout(0, 1, 0, 0);
+    lent_timeout(0, 0, 0, -1);
+    lent_timeout(0, 2, 0, -1);
+    lent_timeout(0, 1, 1, -7);
+    lent_timeout(0, 2, 1, -1);
+    lent_timeout(0, 1, 1_000_000_000_000_000_000, 0);
+    lent_timeout(0, 1, 1_000_000_000_001_000_000, -7);
+    text(
+        b"\nwith the tags of estimate, overuse, hypothesis and state one past the last, and the time's tag of no overuse; with an estimate out of range:",
+    );
+    lent_timeout(3, 2, 0, -1);
+    lent_timeout(70, 2, 0, -1);
+    lent_timeout(76, 3, 0, -1);
+    lent_timeout(77, 3, 0, -1);
+    lent_timeout(72, 4, 0, 0);
+    lent_timeout(78, 0, 0, -1);
+    text(b"\n");
+}
+
+// What C reads of words: code as expected, rate and threshold as expected, hypothesis, next timeout.
+fn read(word: usize, value: u64, expected: i64, rate: f64, expected_threshold: f64) {
+    let link = lent(word, value);
+    let mut bitrate = 7.0;
+    let mut hypothesis = 7;
+    let mut next_timeout = 7;
+    let mut threshold = 7.0;
+    let code = c_api::hornetpewter_read(
+        &link,
+        &mut bitrate,
+        &mut hypothesis,
+        &mut next_timeout,
+        &mut threshold,
+    );
+    yes_or_no((code == expected) & (bitrate == rate) & (threshold == expected_threshold));
+    number(hypothesis as u64);
+    number(next_timeout);
+}
+
+// The example of document 01, by calls: a timeout at 1 s, then a report of no packets with a probe of 2,000,000 bps at 1.01 s.
+fn example() {
+    let none = [0u64; 1];
+    let none = &none[0..0];
+    let mut link = lent(0, 1);
+    let mut bitrate = 7.0;
+    let mut hypothesis = 7;
+    let mut next_timeout = 7;
+    let first = c_api::hornetpewter_timeout(
+        &mut link,
+        1_000_000_000,
+        &mut bitrate,
+        &mut hypothesis,
+        &mut next_timeout,
+    );
+    yes_or_no((first == 0) & (bitrate == 1_000_000.0));
+    number(hypothesis as u64);
+    number(next_timeout);
+    let second = c_api::hornetpewter_report(
+        &mut link,
+        none,
+        none,
+        none,
+        none,
+        none,
+        1,
+        2_000_000.0,
+        1_010_000_000,
+        &mut bitrate,
+        &mut hypothesis,
+        &mut next_timeout,
+    );
+    yes_or_no((second == 0) & (bitrate == 2_000_000.0));
+    number(hypothesis as u64);
+    number(next_timeout);
+}
+
+fn reads() {
+    text(
+        b"C reads a link that was opened, with the formats 0 and 2, with a threshold out of range:",
+    );
+    read(0, 1, 0, 1_000_000.0, 12.5);
+    read(0, 0, -1, 7.0, 7.0);
+    read(0, 2, -1, 7.0, 7.0);
+    read(68, 0, -1, 7.0, 7.0);
+    text(b"\nthe example of document 01, by C's calls:");
+    example();
     text(b"\n");
 }
 
@@ -306,6 +570,10 @@ fn quantities() {
 fn main() {
     lengths();
     refusals();
+    openings();
+    reports();
+    timeouts();
+    reads();
     lines();
     first();
     delays();
