@@ -236,7 +236,7 @@ int damaged(uint64_t seed, uint64_t count)
             bad++;
     for (uint64_t k = 1; k <= count; k++) {
         if (k % 8 == 1 && !go_on(&pool[below(POOL)])) {
-            fprintf(stderr, "a call on an undamaged link was refused, before state %" PRIu64 "\n", k);
+            fprintf(stderr, "a call on an undamaged link, before state %" PRIu64 ": %s\n", k, wrong ? wrong : "refused");
             bad++;
         }
         outcome o = one_state(&pool[below(POOL)]);

@@ -1,6 +1,6 @@
 /*
  * A gateway's loop over one link, to copy from. It sends packets at the pace of the estimate, hands feedback to the link as it comes, and tells it of
- * time when a timeout is due. In the place of a network it has a path of its own, at the end: a line of 600,000 bps, and 20 ms each way.
+ * time when a timeout is due. In the place of a network it has a path of its own: a line of 600,000 bps, and 20 ms each way. It runs for 1.5 s.
  */
 #define _POSIX_C_SOURCE 200809L
 #include "hornetpewter.h"
@@ -11,29 +11,16 @@
 
 #define MS UINT64_C(1000000)
 #define SECOND (1000 * MS)
-#define RUN (1500 * MS)   /* how long this example runs */
-#define START 1000000     /* bps */
-#define HISTORY 4096      /* packets in flight */
-#define SIZE 1200         /* bytes on the wire, headers too: no packet has size 0 */
+#define START 1000000 /* bps */
+#define SIZE 1200     /* bytes on the wire, headers too, so that no packet has size 0 */
+#define HISTORY 4096  /* packets that feedback may still name */
 
-/* A feedback message (transport-wide congestion control), parsed. The sequence numbers and the reference time are unwrapped. */
+/* A feedback message (transport-wide congestion control), parsed; sequence numbers and reference time are unwrapped. */
 typedef struct {
     size_t count;
-    uint64_t reference_time; /* in 64 ms, of the receiver's clock */
+    uint64_t reference_time;                    /* in 64 ms, of the receiver's clock */
     uint64_t sequence[HISTORY], ticks[HISTORY]; /* 250 us since the reference time */
 } feedback;
-
-/* A link and what it told last. */
-typedef struct {
-    hornetpewter_link link;
-    double bitrate, threshold;
-    uint32_t hypothesis;
-    uint64_t next_timeout;
-} estimator;
-
-static void path_send(uint64_t sequence, uint64_t t);
-static int path_feedback(uint64_t t, uint64_t sent, feedback *f);
-static uint64_t path_wakes(void);
 
 /* ---- the two clocks, in whole ns */
 static uint64_t local_clock(void)
@@ -54,104 +41,18 @@ static uint64_t whole_ms(uint64_t t)
     return t - t % MS;
 }
 
-static void sleep_until(uint64_t t)
-{
-    struct timespec at = {(time_t)(t / SECOND), (long)(t % SECOND)};
-    clock_nanosleep(CLOCK_MONOTONIC, TIMER_ABSTIME, &at, NULL);
-}
-
-/* ---- the link */
-static void open_link(estimator *e)
-{
-    hornetpewter_open(&e->link, START, 500 * MS, 150 * MS);
-    hornetpewter_read(&e->link, &e->bitrate, &e->hypothesis, &e->next_timeout, &e->threshold);
-}
-
-/*
- * A refused call left the link as it was, so the loop goes on: what the call had to say is lost, and the next one is judged on its own. The number says what
- * to mend in the gateway. Only a link that is out of range, its memory overwritten, never gets well, and is opened anew.
- */
-static void refused(estimator *e, const char *call, int64_t answer)
-{
-    fprintf(stderr, "%s: refused with %" PRId64 "\n", call, -answer);
-    if (answer == -HORNETPEWTER_OUT_OF_RANGE)
-        open_link(e);
-}
-
-static struct {
-    uint64_t at, size;
-} sent[HISTORY];
-
-static void on_feedback(estimator *e, const feedback *f, uint64_t arrived)
-{
-    static uint64_t sizes[HISTORY], sends[HISTORY], remotes[HISTORY], receives[HISTORY];
-    for (size_t i = 0; i < f->count; i++) {
-        sizes[i] = sent[f->sequence[i] % HISTORY].size;
-        sends[i] = sent[f->sequence[i] % HISTORY].at;
-        remotes[i] = remote_clock(f, i);
-        receives[i] = arrived;
-    }
-    for (size_t from = 0, n; from < f->count; from += n) { /* a report takes 1,024 packets */
-        n = f->count - from < HORNETPEWTER_MOST_PACKETS ? f->count - from : HORNETPEWTER_MOST_PACKETS;
-        int64_t answer = hornetpewter_report(&e->link, f->sequence + from, n, sizes + from, n, sends + from, n, remotes + from, n, receives + from, n,
-                                             0, 0, whole_ms(arrived), &e->bitrate, &e->hypothesis, &e->next_timeout);
-        if (answer != 0)
-            refused(e, "report", answer);
-    }
-}
-
-static void on_timeout(estimator *e, uint64_t t)
-{
-    int64_t answer = hornetpewter_timeout(&e->link, whole_ms(t), &e->bitrate, &e->hypothesis, &e->next_timeout);
-    if (answer != 0)
-        refused(e, "timeout", answer);
-}
-
-/* When to wake for a timeout: not before it is due by `now`, and once a ms at most (a short round trip may have it due in the ms that it was told in). */
-static uint64_t timeout_wakes(const estimator *e, uint64_t t)
-{
-    uint64_t due = whole_ms(e->next_timeout + MS - 1), soonest = whole_ms(t) + MS;
-    return due > soonest ? due : soonest;
-}
-
-static uint64_t earlier(uint64_t a, uint64_t b)
-{
-    return a < b ? a : b;
-}
-
-int main(void)
-{
-    static estimator e;
-    static feedback f;
-    uint64_t start = local_clock(), send_at = start, line_at = start, sequence = 0;
-    open_link(&e);
-    for (uint64_t t = start; t < start + RUN; t = local_clock()) {
-        if (t >= send_at) {
-            sent[sequence % HISTORY].at = t;
-            sent[sequence % HISTORY].size = SIZE;
-            path_send(sequence++, t);
-            send_at = t + (uint64_t)(SIZE * 8 * 1e9 / e.bitrate);
-        }
-        if (path_feedback(t, sequence, &f))
-            on_feedback(&e, &f, t);
-        if (whole_ms(t) >= e.next_timeout)
-            on_timeout(&e, t);
-        if (t >= line_at) {
-            printf("%4" PRIu64 " ms: %7.0f bps, %s\n", (t - start) / MS, e.bitrate, (const char *[]){"overuse", "normal", "underuse"}[e.hypothesis]);
-            line_at += 100 * MS;
-        }
-        sleep_until(earlier(send_at, earlier(path_wakes(), timeout_wakes(&e, t))));
-    }
-    return 0;
-}
-
-/* ---- the path. Its receiver's clock is an hour ahead of ours; it sends feedback every 50 ms. */
+/* ---- the path. Its receiver's clock is an hour ahead of ours, and it sends feedback every 50 ms. */
 static uint64_t arrival[HISTORY], line_free, told, told_at;
 
 static void path_send(uint64_t sequence, uint64_t t)
 {
     line_free = (line_free > t ? line_free : t) + SIZE * 8 * SECOND / 600000;
     arrival[sequence % HISTORY] = line_free + 20 * MS;
+}
+
+static uint64_t path_wakes(void)
+{
+    return told_at + 70 * MS;
 }
 
 static int path_feedback(uint64_t t, uint64_t sent_count, feedback *f)
@@ -169,7 +70,85 @@ static int path_feedback(uint64_t t, uint64_t sent_count, feedback *f)
     return f->count > 0;
 }
 
-static uint64_t path_wakes(void)
+/* ---- the link, and what it told last */
+static hornetpewter_link link_words;
+static double bitrate, threshold;
+static uint32_t hypothesis;
+static uint64_t next_timeout;
+
+static void open_link(void)
 {
-    return told_at + 70 * MS;
+    hornetpewter_open(&link_words, START, 500 * MS, 150 * MS);
+    hornetpewter_read(&link_words, &bitrate, &hypothesis, &next_timeout, &threshold);
+}
+
+/*
+ * A refused call left the link as it was, so the loop goes on: what the call had to say is lost, and the next one is judged on its own. The number says what
+ * to mend in the gateway. Only a link that is out of range, its memory overwritten, is refused for good, and is opened anew.
+ */
+static void check(const char *call, int64_t answer)
+{
+    if (answer == 0)
+        return;
+    fprintf(stderr, "%s: refused with %" PRId64 "\n", call, -answer);
+    if (answer == -HORNETPEWTER_OUT_OF_RANGE)
+        open_link();
+}
+
+static uint64_t sent_at[HISTORY], sent_size[HISTORY];
+
+static void on_feedback(const feedback *f, uint64_t arrived)
+{
+    static uint64_t sizes[HISTORY], sends[HISTORY], remotes[HISTORY], receives[HISTORY];
+    for (size_t i = 0; i < f->count; i++) { /* a gateway leaves out sequence numbers that it never sent */
+        sizes[i] = sent_size[f->sequence[i] % HISTORY];
+        sends[i] = sent_at[f->sequence[i] % HISTORY];
+        remotes[i] = remote_clock(f, i);
+        receives[i] = arrived;
+    }
+    for (size_t k = 0, n; k < f->count; k += n) { /* in parts, where a message has more packets than a report takes */
+        n = f->count - k < HORNETPEWTER_MOST_PACKETS ? f->count - k : HORNETPEWTER_MOST_PACKETS;
+        check("report", hornetpewter_report(&link_words, f->sequence + k, n, sizes + k, n, sends + k, n, remotes + k, n, receives + k, n, 0, 0,
+                                            whole_ms(arrived), &bitrate, &hypothesis, &next_timeout));
+    }
+}
+
+/* When to wake for a timeout: when `now` can reach it, and once a ms at most, as a short round trip may have it due at once. */
+static uint64_t timeout_wakes(uint64_t t)
+{
+    uint64_t due = whole_ms(next_timeout + MS - 1), soonest = whole_ms(t) + MS;
+    return due > soonest ? due : soonest;
+}
+
+static void sleep_until(uint64_t a, uint64_t b, uint64_t c)
+{
+    uint64_t first = a < b ? a : b, t = first < c ? first : c;
+    struct timespec at = {(time_t)(t / SECOND), (long)(t % SECOND)};
+    clock_nanosleep(CLOCK_MONOTONIC, TIMER_ABSTIME, &at, NULL);
+}
+
+int main(void)
+{
+    static const char *const names[] = {"overuse", "normal", "underuse"};
+    static feedback f;
+    uint64_t start = local_clock(), send_at = start, line_at = start, sequence = 0;
+    open_link();
+    for (uint64_t t = start; t < start + 1500 * MS; t = local_clock()) {
+        if (t >= send_at) {
+            sent_at[sequence % HISTORY] = t;
+            sent_size[sequence % HISTORY] = SIZE;
+            path_send(sequence++, t);
+            send_at = t + (uint64_t)(SIZE * 8 * 1e9 / bitrate);
+        }
+        if (path_feedback(t, sequence, &f))
+            on_feedback(&f, t);
+        if (whole_ms(t) >= next_timeout)
+            check("timeout", hornetpewter_timeout(&link_words, whole_ms(t), &bitrate, &hypothesis, &next_timeout));
+        if (t >= line_at) {
+            printf("%4" PRIu64 " ms: %7.0f bps, %s\n", (t - start) / MS, bitrate, names[hypothesis]);
+            line_at += 100 * MS;
+        }
+        sleep_until(send_at, path_wakes(), timeout_wakes(t));
+    }
+    return 0;
 }

@@ -6,8 +6,8 @@
  *
  * Answers. A call returns 0, or the opposite of the number of the question that turned it down: -6 is
  * -HORNETPEWTER_BAD_SIZE. (hornetpewter_list returns the listing's length in the place of 0.) Questions are put in the
- * order of their numbers, and the first no gives the number. After a refusal the link's words and all lent places are as
- * they were, and the link goes on with the next call.
+ * order of their numbers, 11 and 12 record by record, and the first no gives the number. After a refusal the link's words
+ * and all lent places are as they were, and the link goes on with the next call.
  *
  * Clocks. All times are whole nanoseconds (ns) from an origin of the caller's, at most 10^18; the Unix time in ns is past
  * that, so use a monotonic clock or subtract an origin. There are two clocks: `sends`, `receives` and `now` are read from
@@ -22,12 +22,14 @@
  * Threads. The library has no globals and keeps no pointer. Calls on different links may run at the same time; calls on
  * one link may not, so keep a link to one thread, or put a lock of your own around it.
  *
- * Memory. Nothing is allocated. No call needs more than HORNETPEWTER_STACK_BYTES of stack. Pointers are valid and aligned
- * for their type, also where a call is refused; of a list of length 0 the pointer is not read, and may be NULL. What a
- * call writes (the link, the results, the output) overlaps nothing else that is lent to it. The lists of a report are only
- * read and may overlap each other.
+ * Memory. Nothing is allocated. No call needs more than HORNETPEWTER_STACK_BYTES of stack: measured were 2.2 KB for open,
+ * 53 for report, 8 for timeout, 1.4 for read and 61 for list. Pointers are valid and aligned for their types, also where
+ * a call is refused; a list or a buffer of length 0 may be NULL. What a call writes (the link, the results, the output)
+ * overlaps nothing else that is lent to it. The lists of a report are only read and may overlap each other.
  *
- * Processors. The archive is for x86-64 and its System V calls, and needs memcpy and memset of the C library.
+ * Machines. The archive is for x86-64 with the System V calling convention (Linux), and needs memcpy, memmove and memset.
+ * Floats are rounded to nearest and subnormal ones are kept, as a thread has it by default: do not link the gateway with
+ * -ffast-math, which sets this otherwise for the whole program.
  */
 #ifndef HORNETPEWTER_H
 #define HORNETPEWTER_H
@@ -99,8 +101,10 @@ int64_t hornetpewter_report(hornetpewter_link *link,
                             double *bitrate, uint32_t *hypothesis, uint64_t *next_timeout);
 
 /*
- * Tells a link that it is now this late. To be called when the next timeout is due: without reports the estimate is
- * updated by timeouts alone. A call before it is due is accepted too. Puts questions 1 and 7; results as above.
+ * Tells a link that it is now this late, to be called when the next timeout is due; a call before that is taken too. It
+ * updates the estimate where the last report is at most 50 ms and at most two round trips old, and else only sets the next
+ * timeout. That lies 25 ms ahead, or a round trip if this is shorter: it need not be a whole ms, and may be less than one
+ * away. Puts questions 1 and 7; results as above.
  */
 int64_t hornetpewter_timeout(hornetpewter_link *link, uint64_t now,
                              double *bitrate, uint32_t *hypothesis, uint64_t *next_timeout);
