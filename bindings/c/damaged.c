@@ -106,7 +106,8 @@ static int go_on(source *s)
 /* ---- damage */
 static const uint64_t limits[] = {0, 1, 2, 3, 4, 20, 21, 60, 1000000, 25000000, 2147483647, 10000000000, 1000000000000000000, 1000000001000000000,
                                   2000000000000000000, 4000000000000000000, UINT64_C(1) << 63, UINT64_MAX};
-static const double floats[] = {0, -0.0, 5e-324, 0.8, 1, 6, 12.5, 600, 40000, 1e6, 1e9, 1e10, 1e12, -1e12, 1e14, 1e30, -1e30, 1e31, -1e31, 1e308, INFINITY, -INFINITY, NAN};
+static const double floats[] = {0, -0.0, 5e-324, 0.8, 1, 6, 12.5, 600, 40000, 1e6, 1e9, 1e10, 1e12, -1e12, 1e14, 1e30, -1e30, 1e31, -1e31,
+                                1e308, INFINITY, -INFINITY, NAN};
 
 static uint64_t odd_word(void)
 {

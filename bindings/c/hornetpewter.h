@@ -14,10 +14,10 @@
  * the gateway's own, `remotes` from that of the receiver, as feedback tells them. They need not agree. `now` is a whole
  * millisecond: round it down.
  *
- * Links. A link is plain words. It may be copied, written to a file and loaded again, by a program of the same byte order;
- * a copy goes on as the original would. Word 0 is the format: words of another format, or words that no link of this
- * format holds, are turned down with HORNETPEWTER_OUT_OF_RANGE by each call, whatever they are. A link with one word
- * changed may still be in range, so this does not detect all damage.
+ * Links. A link is plain words. It may be copied, written to a file and loaded again by a program of the same byte order;
+ * a copy goes on as the original would. Word 0 is the format. Words of another format, with an unknown tag or out of range
+ * are turned down with HORNETPEWTER_OUT_OF_RANGE by every call, so that overwritten memory does no harm; but damaged words
+ * can still be in range, and are then taken for the link that they make.
  *
  * Threads. The library has no globals and keeps no pointer. Calls on different links may run at the same time; calls on
  * one link may not, so keep a link to one thread, or put a lock of your own around it.
