@@ -407,6 +407,20 @@ static void words_not_read(void)
     CHECK(equal(&good, &after));
 }
 
+/* Nor is what the delay history holds past its length: the same answers, report by report. */
+static void history_past_its_length(void)
+{
+    hornetpewter_link good = opened(), link = good;
+    results a = SEVEN, b = SEVEN;
+    for (unsigned i = 24; i < 64; i++)
+        link.words[i] = i % 3 == 0 ? UINT64_MAX : bits(1e300 * i);
+    for (size_t k = 0; k < 30; k++) {
+        run_steady(&good, 10 * k, 1, &a);
+        run_steady(&link, 10 * k, 1, &b);
+        CHECK(bits(a.bitrate) == bits(b.bitrate) && a.hypothesis == b.hypothesis && a.next_timeout == b.next_timeout);
+    }
+}
+
 /* A link stored as bytes and loaded again goes on as the one that stayed, and neither is seen by the other. */
 static void copies_go_on_alike(void)
 {
@@ -536,7 +550,7 @@ static const struct {
 } tests[] = {
     TEST(open_at_its_limits), TEST(open_refusals), TEST(example_by_live_calls), TEST(example_as_a_file), TEST(report_refusals_in_order),
     TEST(report_lists), TEST(report_instants_and_sizes), TEST(report_probes), TEST(moments), TEST(list_refusals), TEST(other_formats),
-    TEST(unknown_tags), TEST(words_not_read), TEST(copies_go_on_alike), TEST(refused_and_on), TEST(lists_that_overlap),
+    TEST(unknown_tags), TEST(words_not_read), TEST(history_past_its_length), TEST(copies_go_on_alike), TEST(refused_and_on), TEST(lists_that_overlap),
     TEST(links_of_their_own_threads), TEST(stack_need), TEST(samples_by_live_calls),
 };
 
