@@ -27,7 +27,7 @@
  * refused; a list or a buffer of length 0 may be NULL. What a call writes (the link, the results, the output) overlaps
  * nothing else that is lent to it. The lists of a report are only read and may overlap each other.
  *
- * Machines. The archive is for x86-64 with the System V calling convention (Linux), and needs memcpy, memmove and memset.
+ * Machines. The archive is for x86-64 with the System V calling convention (Linux), and needs memcpy and memset.
  * Floats are rounded to nearest and subnormal ones are kept, as a thread has it by default: do not link the gateway with
  * -ffast-math, which sets this otherwise for the whole program.
  */

@@ -63,7 +63,7 @@
 //! `build.rs` looks for the proved archive, libhornetpewter.a, in the folder that the environment
 //! variable `HORNETPEWTER_LIB_DIR` names; without it in `lib/` of this crate, then in `target/dist/lib`
 //! of the repository. `tools/dist` in the repository makes it, and a copy of this crate that has it.
-//! The archive needs `memcpy`, `memmove` and `memset`, which every Rust program has.
+//! The archive needs `memcpy` and `memset`, which every Rust program has.
 //!
 //! # Threads, memory and stack
 //!
