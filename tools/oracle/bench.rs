@@ -110,12 +110,11 @@ fn ours(file: &[u8], out: &mut [u8]) -> usize {
 }
 
 /// The calls of a pass on a lent link, as a gateway makes them: packets gathered in five lists.
-fn live_ours(records: &[Record], mut told: impl FnMut(Told)) {
-    let mut link = [0; 100];
+fn live_ours(records: &[Record], link: &mut [u64; 100], mut told: impl FnMut(Told)) {
     let (mut bitrate, mut hypothesis, mut next) = (0.0, 0, 0);
     let (mut lists, mut n) = ([[0; 1024]; 5], 0);
     unsafe {
-        hornetpewter_open(&mut link, 1e6, 500 * MS, 150 * MS);
+        hornetpewter_open(link, 1e6, 500 * MS, 150 * MS);
         for &(kind, size, sequence, send, remote, receive) in records {
             if kind == 1 {
                 for (list, x) in lists.iter_mut().zip([sequence, size as u64, send, remote, receive]) {
@@ -126,11 +125,11 @@ fn live_ours(records: &[Record], mut told: impl FnMut(Told)) {
             }
             let code = if kind == 2 {
                 let [a, b, c, d, e] = lists.each_ref().map(|list| list.as_ptr());
-                let code = hornetpewter_report(&mut link, a, n, b, n, c, n, d, n, e, n, 0, 0.0, receive, &mut bitrate, &mut hypothesis, &mut next);
+                let code = hornetpewter_report(link, a, n, b, n, c, n, d, n, e, n, 0, 0.0, receive, &mut bitrate, &mut hypothesis, &mut next);
                 n = 0;
                 code
             } else {
-                hornetpewter_timeout(&mut link, receive, &mut bitrate, &mut hypothesis, &mut next)
+                hornetpewter_timeout(link, receive, &mut bitrate, &mut hypothesis, &mut next)
             };
             assert!(code == 0, "refused with {}", -code);
             told((bitrate, hypothesis, next));
@@ -204,10 +203,10 @@ pub fn turns(name: &str, side: &str, turns: u32) {
             "ours" => {
                 ours(&file, &mut out);
             }
-            "live" => live_ours(&records, |t| {
+            "live" => live_ours(&records, &mut [0; 100], |t| {
                 black_box(t);
             }),
-            "live Rust" => live_rust(&events, |t| {
+            "live_Rust" => live_rust(&events, |t| {
                 black_box(t);
             }),
             _ => {
@@ -242,14 +241,14 @@ pub fn times(rounds: u32) {
     }
     for (name, records) in passes() {
         let events = events(&records);
-        let (mut said, mut theirs) = (vec![], vec![]);
-        live_ours(&records, |t| said.push(t));
+        let (mut link, mut said, mut theirs) = ([0; 100], vec![], vec![]);
+        live_ours(&records, &mut link, |t| said.push(t));
         live_rust(&events, |t| theirs.push(t));
         assert!(said == theirs, "{name}: the live calls differ");
         let (mut a, mut b) = (f64::INFINITY, f64::INFINITY);
         for _ in 0..rounds {
             a = a.min(timed(20, || {
-                live_ours(black_box(&records), |t| {
+                live_ours(black_box(&records), &mut link, |t| {
                     black_box(t);
                 })
             }));
@@ -262,6 +261,26 @@ pub fn times(rounds: u32) {
         let packets = records.iter().filter(|r| r.0 == 1).count();
         println!("live: {name}\t{packets}\t{}\t{a}\t{b}", records.len() - packets);
     }
+    alone(rounds);
+}
+
+/// The least times of reading a link after the typical pass (words to a link, question 1) and of opening one (a link to words).
+fn alone(rounds: u32) {
+    let (mut link, mut other) = ([0; 100], [0; 100]);
+    live_ours(&typical(), &mut link, |_| ());
+    let (mut bitrate, mut hypothesis, mut next, mut threshold) = (0.0, 0, 0, 0.0);
+    let (mut read, mut open) = (f64::INFINITY, f64::INFINITY);
+    for _ in 0..rounds {
+        read = read.min(timed(1000, || {
+            let code = unsafe { hornetpewter_read(black_box(&link), &mut bitrate, &mut hypothesis, &mut next, &mut threshold) };
+            assert!(code == 0, "refused with {}", -code);
+        }));
+        open = open.min(timed(1000, || {
+            black_box(unsafe { hornetpewter_open(black_box(&mut other), 1e6, 500 * MS, 150 * MS) });
+        }));
+    }
+    println!("live: read\t0\t1\t{read}\tNaN");
+    println!("live: open\t0\t1\t{open}\tNaN");
 }
 
 /// The least times of several processes: where a process has its stack and its buffers, which differs from one to the next, changes a time by some 8 %.
@@ -285,7 +304,7 @@ pub fn bench(processes: u32, rounds: u32) {
     println!("{:<30} {:>7} {:>5} {:>19} {:>19} {:>6}", "", "", "", "ns a packet", "ns a call", "");
     println!("{:<30} {:>7} {:>5} {:>9} {:>9} {:>9} {:>9} {:>6}", "pass", "packets", "calls", "ours", "Rust", "ours", "Rust", "ratio");
     for (name, packets, calls, a, b) in least {
-        let each = |time: f64, n: usize| if n == 0 { "-".into() } else { format!("{:.1}", time / n as f64) };
+        let each = |time: f64, n: usize| if n == 0 || time.is_nan() { "-".into() } else { format!("{:.1}", time / n as f64) };
         println!("{name:<30} {packets:>7} {calls:>5} {:>9} {:>9} {:>9} {:>9} {:>6.2}", each(a, packets), each(b, packets), each(a, calls), each(b, calls), a / b);
     }
 }
