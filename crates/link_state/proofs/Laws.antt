@@ -1,6 +1,6 @@
--- The two loops over the first n elements of an array: what is left at i, and what the definitions say of it.
-use mathlib.Core.Path.{_≡_}
-use mathlib.Core.Bool.{true, false}
+-- The loop over the first n timings: what is left at i, and what the definitions say of it.
+use mathlib.Core.Path.{_≡_, refl}
+use mathlib.Core.Bool.{Bool, true, false, _&&_}
 use mathlib.Core.List.{List, [], _∷_}
 use Prim.Native.Nat.{ℕ, _+_, _<_, _≤_}
 use native.Mathlib.Numerals.{add-one}
@@ -21,30 +21,29 @@ rest-end a n i e k =
     let d : drop (length (take n a)) (take n a) ≡ [] = drop-length (take n a) in
     cc
 
-pub ascends-turn : (low high : Float) (a : List Float) (n i : ℕ) → i < n → n ≤ length a → le low (getD a i nan) ≡ true
-    → ascends low (drop i (take n a)) high ≡ ascends (getD a i nan) (drop (i + 1) (take n a)) high
-unfolding ascends
-ascends-turn low high a n i h k e = rw (rest-cons a n i, e)
+-- ---- one timing: its time, not below the one before, and its delay
+regroup : (p l w a b : Bool) → ((p && (l && w)) && (a && b)) ≡ (p && ((l && a) && (w && b)))
+regroup false l w a b = refl
+regroup true false w a b = refl
+regroup true true true a b = refl
+regroup true true false true b = refl
+regroup true true false false b = refl
 
-pub ascends-fails : (low high : Float) (a : List Float) (n i : ℕ) → i < n → n ≤ length a → le low (getD a i nan) ≡ false
-    → ascends low (drop i (take n a)) high ≡ false
-unfolding ascends
-ascends-fails low high a n i h k e = rw (rest-cons a n i, e)
+module _ (low high most : Float) (times delays : List Float) (n i : ℕ) (few : n ≤ length times) (few-delays : n ≤ length delays) where
+  abbrev left : Float → ℕ → Bool
+  left from at = ascends from (drop at (take n times)) high && allWithin most (drop at (take n delays))
 
-pub ascends-end : (low high : Float) (a : List Float) (n i : ℕ) → i ≡ n → n ≤ length a → ascends low (drop i (take n a)) high ≡ le low high
-unfolding ascends
-ascends-end low high a n i e k = rw (rest-end a n i)
+  pub timings-turn : (all one : Bool) → i < n → one ≡ (le low (getD times i nan) && within (neg most) most (getD delays i nan))
+      → ((all && one) && left (getD times i nan) (i + 1)) ≡ (all && left low i)
+  unfolding ascends allWithin
+  timings-turn all one h e =
+      rw (rest-cons times n i, rest-cons delays n i, e)
+      (regroup all (le low (getD times i nan)) (within (neg most) most (getD delays i nan)) (ascends (getD times i nan) (drop (i + 1) (take n times)) high) (allWithin most (drop (i + 1) (take n delays))))
 
-pub within-turn : (most : Float) (a : List Float) (n i : ℕ) → i < n → n ≤ length a → within (neg most) most (getD a i nan) ≡ true
-    → allWithin most (drop i (take n a)) ≡ allWithin most (drop (i + 1) (take n a))
-unfolding allWithin
-within-turn most a n i h k e = rw (rest-cons a n i, e)
-
-pub within-fails : (most : Float) (a : List Float) (n i : ℕ) → i < n → n ≤ length a → within (neg most) most (getD a i nan) ≡ false
-    → allWithin most (drop i (take n a)) ≡ false
-unfolding allWithin
-within-fails most a n i h k e = rw (rest-cons a n i, e)
-
-pub within-end : (most : Float) (a : List Float) (n i : ℕ) → i ≡ n → n ≤ length a → allWithin most (drop i (take n a)) ≡ true
-unfolding allWithin
-within-end most a n i e k = rw (rest-end a n i)
+  pub timings-end : i ≡ n → left low i ≡ le low high
+  unfolding ascends allWithin
+  timings-end e = rw (rest-end times n i, rest-end delays n i) (and-true (le low high))
+    where
+      and-true : (b : Bool) → (b && true) ≡ b
+      and-true true = refl
+      and-true false = refl

@@ -1,4 +1,5 @@
 // The state of a link, and document 01's question 1: whether a lent one is in range. Whatever it holds, the test is defined.
+ghost use mathlib.Core.Bool.{_&&_};
 ghost use mathlib.Core.Path.{_≡_};
 ghost use Prim.Native.Nat.{_≤_};
 ghost use lib.Ieee as Ieee;
@@ -134,37 +135,25 @@ fn groups_in(a: ArrivalGroupAccumulator) -> bool
 }
 
 // ---- the trendline
-fn ascends(times: [f64; 20], n: usize) -> bool
+// The first n timings: times in order within ±10^12, delays within ±10^31. Every turn tests the same, so that LLVM takes two at once where n is known.
+fn timings_in(times: [f64; 20], delays: [f64; 20], n: usize) -> bool
     requires { ⌜ n ≤ 20 ⌝ }
-    ensures { λ r. ⌜ r ≡ State.ascends (Ieee.neg State.mostTime) (take n times) State.mostTime ⌝ }
+    ensures { λ r. ⌜ r ≡ (State.ascends (Ieee.neg State.mostTime) (take n times) State.mostTime && State.allWithin State.most31 (take n delays)) ⌝ }
 {
+    let mut all = true;
     let mut low = -MOST_TIME;
     let mut i = 0;
     while i < n {
         let x = times[i];
+        let mut one = false;
         if low <= x {
-            low = x;
-            i += 1;
-        } else {
-            return false;
+            one = float::within(-MOST_31, MOST_31, delays[i]);
         }
+        all = all & one;
+        low = x;
+        i += 1;
     }
-    low <= MOST_TIME
-}
-
-fn all_within(delays: [f64; 20], n: usize) -> bool
-    requires { ⌜ n ≤ 20 ⌝ }
-    ensures { λ r. ⌜ r ≡ State.allWithin State.most31 (take n delays) ⌝ }
-{
-    let mut i = 0;
-    while i < n {
-        if float::within(-MOST_31, MOST_31, delays[i]) {
-            i += 1;
-        } else {
-            return false;
-        }
-    }
-    true
+    all & (low <= MOST_TIME)
 }
 
 fn history_in(h: History) -> bool
@@ -176,10 +165,10 @@ fn history_in(h: History) -> bool
     if n > 20 {
         return false;
     }
-    if ascends(times, n) {
-        return all_within(delays, n);
+    if n == 20 {
+        return timings_in(times, delays, 20);
     }
-    false
+    timings_in(times, delays, n)
 }
 
 fn delays_in(d: Delays) -> bool
@@ -257,28 +246,33 @@ fn rate_control_in(c: RateControl) -> bool
     limits & rate & observed & instant_in(last) & duration_in(rtt)
 }
 
-fn control_in(c: DelayController) -> bool
-    ensures { λ r. ⌜ r ≡ State.controlIn c ⌝ }
-{
-    let groups = c.arrival_group_accumulator;
-    let trendline = c.trendline_estimator;
-    let rate_control = c.rate_control;
-    let rtt = c.smoothed_rtt;
-    let last = c.last_twcc_report;
-    groups_in(groups)
-        & trendline_in(trendline)
-        & rate_control_in(rate_control)
-        & average_in(rtt, DelayController::RTT_SMOOTHING_FACTOR, MOST_ROUND_TRIP)
-        & (c.next_timeout <= MOST_NS)
-        & instant_in(last)
-}
-
 impl Link {
+    // Part by part, each read when its turn comes.
     pub fn in_range(self) -> bool
         ensures { λ r. ⌜ r ≡ State.inRange self ⌝ }
     {
         let acked = self.acked;
+        if !acked_in(acked) {
+            return false;
+        }
+        let groups = self.control.arrival_group_accumulator;
+        if !groups_in(groups) {
+            return false;
+        }
+        let trendline = self.control.trendline_estimator;
+        if !trendline_in(trendline) {
+            return false;
+        }
+        let rate_control = self.control.rate_control;
+        if !rate_control_in(rate_control) {
+            return false;
+        }
+        let rtt = self.control.smoothed_rtt;
+        if !average_in(rtt, DelayController::RTT_SMOOTHING_FACTOR, MOST_ROUND_TRIP) {
+            return false;
+        }
         let control = self.control;
-        acked_in(acked) & control_in(control)
+        let last = control.last_twcc_report;
+        (control.next_timeout <= MOST_NS) & instant_in(last)
     }
 }
