@@ -305,6 +305,7 @@ pub fn bench(processes: u32, rounds: u32) {
     println!("{:<30} {:>7} {:>5} {:>9} {:>9} {:>9} {:>9} {:>6}", "pass", "packets", "calls", "ours", "Rust", "ours", "Rust", "ratio");
     for (name, packets, calls, a, b) in least {
         let each = |time: f64, n: usize| if n == 0 || time.is_nan() { "-".into() } else { format!("{:.1}", time / n as f64) };
-        println!("{name:<30} {packets:>7} {calls:>5} {:>9} {:>9} {:>9} {:>9} {:>6.2}", each(a, packets), each(b, packets), each(a, calls), each(b, calls), a / b);
+        let ratio = if b.is_nan() { "-".into() } else { format!("{:.2}", a / b) };
+        println!("{name:<30} {packets:>7} {calls:>5} {:>9} {:>9} {:>9} {:>9} {ratio:>6}", each(a, packets), each(b, packets), each(a, calls), each(b, calls));
     }
 }
