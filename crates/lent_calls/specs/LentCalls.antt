@@ -6,14 +6,12 @@ use mathlib.Core.List.{List}
 use lib.Dec.{eqb}
 use lib.IntN.{ℤ, pos, negℤ}
 use lib.Ieee.{Float}
-use Rattle.bandwidth.specs.declared.Bitrate.{Bitrate}
-use Rattle.bandwidth.specs.declared.BandwidthUsage.{BandwidthUsage}
 use Rattle.bandwidth.specs.declared.OptionBitrate.{OptionBitrate}
 use Rattle.bandwidth.specs.declared.OptionBitrate.the-variants as Rate
 use Rattle.link_state.specs.State.{inRange}
 use Rattle.link_state.specs.declared.Link.{Link}
 use Rattle.link_words.specs.LinkWords.{formed, hypothesisTag, ofWords, toWords}
-use Rattle.link.specs.Link.{Outcome, Reply, Started, accepted, estimate, hypothesis, nextTimeout, opened, opening, refused, turnedDown}
+use Rattle.link.specs.Link.{Reply, Started, accepted, estimate, hypothesis, nextTimeout, opened, refused, turnedDown}
 use Rattle.link_runs.specs.Statement.{Call, call, threshold}
 
 -- ---- what C gets for a reply: its code, 0 or the opposite of the number, and what a lent place holds after it
