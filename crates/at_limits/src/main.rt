@@ -237,25 +237,43 @@ fn lent_timeout(word: usize, value: u64, moment: u64, expected: i64) {
     );
 }
 
+// Of one packet.
+fn lent_packet(size: u64, instant: u64, has_probe: u32, probe: f64, moment: u64, expected: i64) {
+    lent_report(
+        &[1],
+        &[size],
+        &[instant],
+        has_probe,
+        probe,
+        moment,
+        expected,
+    );
+}
+
+// Of two packets at two instants.
+fn lent_pair(sizes: &[u64], first: u64, second: u64, expected: i64) {
+    lent_report(&[1, 2], sizes, &[first, second], 0, 0.0, 0, expected);
+}
+
 fn reports() {
     text(b"C's code for a report that is accepted, and that 4 to 9 turn down:");
-    lent_report(&[1, 2], &[1, 1], &[5, 6], 0, 0.0, 0, 0);
-    lent_report(&[1, 2], &[1], &[5, 6], 0, 0.0, 0, -4);
-    lent_report(&[1], &[1], &[1_000_000_000_000_000_001], 0, 0.0, 0, -5);
-    lent_report(&[1], &[0], &[5], 0, 0.0, 0, -6);
-    lent_report(&[1], &[1], &[5], 0, 0.0, 1, -7);
-    lent_report(&[1], &[1], &[5], 1, -1.0, 0, -8);
-    lent_report(&[1], &[2_147_483_648], &[5], 0, 0.0, 0, -9);
+    lent_pair(&[1, 1], 5, 6, 0);
+    lent_pair(&[1], 5, 6, -4);
+    lent_packet(1, 1_000_000_000_000_000_001, 0, 0.0, 0, -5);
+    lent_packet(0, 5, 0, 0.0, 0, -6);
+    lent_packet(1, 5, 0, 0.0, 1, -7);
+    lent_packet(1, 5, 1, -1.0, 0, -8);
+    lent_packet(2_147_483_648, 5, 0, 0.0, 0, -9);
     text(
         b"\nin disorder, accepted, 4 and 9; a probe of -1 bps with the flags 0 and 2, of 0 and of 10^14 bps:",
     );
-    lent_report(&[1, 2], &[1, 1], &[6, 5], 0, 0.0, 0, 0);
-    lent_report(&[1, 2], &[1], &[6, 5], 0, 0.0, 0, -4);
-    lent_report(&[1, 2], &[1, 2_147_483_647], &[6, 5], 0, 0.0, 0, -9);
-    lent_report(&[1], &[1], &[5], 0, -1.0, 0, 0);
-    lent_report(&[1], &[1], &[5], 2, -1.0, 0, -8);
-    lent_report(&[1], &[1], &[5], 1, 0.0, 0, 0);
-    lent_report(&[1], &[1], &[5], 2, 100_000_000_000_000.0, 0, 0);
+    lent_pair(&[1, 1], 6, 5, 0);
+    lent_pair(&[1], 6, 5, -4);
+    lent_pair(&[1, 2_147_483_647], 6, 5, -9);
+    lent_packet(1, 5, 0, -1.0, 0, 0);
+    lent_packet(1, 5, 2, -1.0, 0, -8);
+    lent_packet(1, 5, 1, 0.0, 0, 0);
+    lent_packet(1, 5, 2, 100_000_000_000_000.0, 0, 0);
     text(b"\n");
 }
 
@@ -444,14 +462,19 @@ fn too_many_bytes() {
     yes_or_no(sum.0 == 0);
 }
 
+// Of one packet.
+fn packet(size: u64, instant: u64, moment: u64) {
+    report(&[1], &[size], &[instant], moment);
+}
+
 fn first() {
     text(b"1 and 4, 1 and 4 in disorder, 1 and 5, 1 and 6, 1 and 7, 1 and 9; timeout, 1 and 7:");
     report(&[1, 2], &[1], &[5, 6], 0);
     report(&[1, 2], &[1], &[6, 5], 0);
-    report(&[1], &[1], &[1_000_000_000_000_000_001], 0);
-    report(&[1], &[0], &[5], 0);
-    report(&[1], &[1], &[5], 1);
-    report(&[1], &[2_147_483_648], &[5], 0);
+    packet(1, 1_000_000_000_000_000_001, 0);
+    packet(0, 5, 0);
+    packet(1, 5, 1);
+    packet(2_147_483_648, 5, 0);
     timeout(1);
     text(b"\nquestion 9 leaves the byte sum:");
     too_many_bytes();
