@@ -16,12 +16,12 @@ use Rattle.questions.specs.declared.Refusal.{Refusal}
 use Rattle.questions.specs.declared.Refusal.the-variants as Refusal
 use Rattle.link_state.specs.State.{inRange}
 use Rattle.link_state.specs.declared.Link.{Link}
-use Rattle.link_words.specs.LinkWords.{formed, hypothesisTag, ofWords, toWords}
+use Rattle.link_words.specs.LinkWords.{formed, hypothesisTag, ofWords, timeoutWords, toWords}
 use Rattle.link.specs.Link.{Outcome, Reply, accepted, acceptedWith, estimate, hypothesis, nextTimeout, refused, refusedBy}
 use Rattle.link.specs.Laws.{report-1, timeout-1}
 use Rattle.link_runs.specs.Statement.{Call, call, threshold}
 use Rattle.link_runs.specs.Statement.Call.{report, timeout}
-use Rattle.lent_calls.specs.LentCalls.{after, bitrateAfter, code, hypothesisAfter, nextTimeoutAfter, read, replyTo, thresholdAfter, wordsAfter}
+use Rattle.lent_calls.specs.LentCalls.{after, bitrateAfter, code, hypothesisAfter, nextTimeoutAfter, read, replyTo, stored, thresholdAfter, wordsAfter}
 
 -- what an accepted call shows of the link that it hands back
 abbrev pub shown : Link → Reply
@@ -63,8 +63,8 @@ module _ {p : Reply} (q : Refusal) (no : p ≡ refused (number q)) where
   pub code-no : {z : ℤ} → mag z < 2 ^ 63 → z ≡ negℤ (pos (number q)) → toZ w64 (ofZ w64 z) ≡ code p
   code-no ok e = kept ok ∙ e ∙ ap code (sym no)
 
-  pub words-no : (l : Link) (w : List ℕ) → w ≡ wordsAfter p l w
-  words-no l w = ap (λ (r : Reply). wordsAfter r l w) (sym no)
+  pub words-no : (v w : List ℕ) → w ≡ wordsAfter p v w
+  words-no v w = ap (λ (r : Reply). wordsAfter r v w) (sym no)
 
   pub bitrate-no : (b : Float) → b ≡ bitrateAfter p b
   bitrate-no b = ap (λ (r : Reply). bitrateAfter r b) (sym no)
@@ -101,9 +101,13 @@ module _ (l : Link) {o : Outcome} (taken : o ≡ acceptedWith l) where
   unfolding acceptedWith
   shown-is = ap (λ (x : Outcome). x .reply) (sym taken)
 
-  pub words-taken : (w : List ℕ) → toWords l ≡ wordsAfter (o .reply) (o .link) w
+  pub words-taken : (w : List ℕ) → toWords l ≡ wordsAfter (o .reply) (toWords (o .link)) w
   unfolding acceptedWith
-  words-taken w = ap (λ (x : Outcome). wordsAfter (x .reply) (x .link) w) (sym taken)
+  words-taken w = ap (λ (x : Outcome). wordsAfter (x .reply) (toWords (x .link)) w) (sym taken)
+
+  pub timeout-taken : (w : List ℕ) → timeoutWords (l .control) w ≡ wordsAfter (o .reply) (timeoutWords (o .link .control) w) w
+  unfolding acceptedWith
+  timeout-taken w = ap (λ (x : Outcome). wordsAfter (x .reply) (timeoutWords (x .link .control) w) w) (sym taken)
 
 -- ---- question 1, of words and of the link that was loaded from them
 module _ (w : List ℕ) {l : Link} (loaded : l ≡ ofWords w) where
@@ -139,9 +143,9 @@ module _ (w : List ℕ) {l : Link} (loaded : l ≡ ofWords w) where
       unfolding replyTo
       reply-is = ap (λ (x : Outcome). x .reply) outcome-is ∙ simp (e)
 
-      pub words-is : wordsAfter (o .reply) (o .link) w ≡ after w k
+      pub words-is : wordsAfter (o .reply) (stored k (o .link) w) w ≡ after w k
       unfolding after
-      words-is = ap (λ (r : Reply). wordsAfter r (o .link) w) reply-is ∙ ap (λ (x : Outcome). wordsAfter (replyTo w k) (x .link) w) outcome-is
+      words-is = ap (λ (r : Reply). wordsAfter r (stored k (o .link) w) w) reply-is ∙ ap (λ (x : Outcome). wordsAfter (replyTo w k) (stored k (x .link) w) w) outcome-is
 
       pub code-is : {z : ℤ} → mag z < 2 ^ 63 → z ≡ code (o .reply) → toZ w64 (ofZ w64 z) ≡ code (replyTo w k)
       code-is ok r = kept ok ∙ r ∙ ap code reply-is
@@ -158,4 +162,4 @@ module _ (w : List ℕ) {l : Link} (loaded : l ≡ ofWords w) where
 -- a refused call leaves the words
 pub words-kept : (w : List ℕ) (k : Call) (q : Refusal) → replyTo w k ≡ refused (number q) → w ≡ after w k
 unfolding after
-words-kept w k q e = words-no q e (call (ofWords w) k .link) w
+words-kept w k q e = words-no q e _ w

@@ -59,7 +59,7 @@ fn store(
     called: Called,
 ) -> i64
     ensures { λ r. ⌜ r ≡ Lent.code (Calls.outcome called .reply) ⌝ }
-    ensures { λ _. ⌜ now (link .exit) ≡ Lent.wordsAfter (Calls.outcome called .reply) (Calls.outcome called .link) (now (link .entry)) ⌝ }
+    ensures { λ _. ⌜ now (link .exit) ≡ Lent.wordsAfter (Calls.outcome called .reply) (toWords (Calls.outcome called .link)) (now (link .entry)) ⌝ }
     ensures { λ _. ⌜ now (bitrate .exit) ≡ Lent.bitrateAfter (Calls.outcome called .reply) (now (bitrate .entry)) ⌝ }
     ensures { λ _. ⌜ now (hypothesis .exit) ≡ Lent.hypothesisAfter (Calls.outcome called .reply) (now (hypothesis .entry)) ⌝ }
     ensures { λ _. ⌜ now («next_timeout» .exit) ≡ Lent.nextTimeoutAfter (Calls.outcome called .reply) (now («next_timeout» .entry)) ⌝ }
@@ -139,7 +139,7 @@ fn report_in_order(
     next_timeout: &mut u64,
 ) -> i64
     ensures { λ r. ⌜ r ≡ Lent.code (Calls.reportInOrder lent (report-of (now (sequences .entry)) (now (sizes .entry)) (now (sends .entry)) (now (remotes .entry)) (now (receives .entry)) probe moment) .reply) ⌝ }
-    ensures { λ _. ⌜ now (link .exit) ≡ Lent.wordsAfter (Calls.reportInOrder lent (report-of (now (sequences .entry)) (now (sizes .entry)) (now (sends .entry)) (now (remotes .entry)) (now (receives .entry)) probe moment) .reply) (Calls.reportInOrder lent (report-of (now (sequences .entry)) (now (sizes .entry)) (now (sends .entry)) (now (remotes .entry)) (now (receives .entry)) probe moment) .link) (now (link .entry)) ⌝ }
+    ensures { λ _. ⌜ now (link .exit) ≡ Lent.wordsAfter (Calls.reportInOrder lent (report-of (now (sequences .entry)) (now (sizes .entry)) (now (sends .entry)) (now (remotes .entry)) (now (receives .entry)) probe moment) .reply) (toWords (Calls.reportInOrder lent (report-of (now (sequences .entry)) (now (sizes .entry)) (now (sends .entry)) (now (remotes .entry)) (now (receives .entry)) probe moment) .link)) (now (link .entry)) ⌝ }
     ensures { λ _. ⌜ now (bitrate .exit) ≡ Lent.bitrateAfter (Calls.reportInOrder lent (report-of (now (sequences .entry)) (now (sizes .entry)) (now (sends .entry)) (now (remotes .entry)) (now (receives .entry)) probe moment) .reply) (now (bitrate .entry)) ⌝ }
     ensures { λ _. ⌜ now (hypothesis .exit) ≡ Lent.hypothesisAfter (Calls.reportInOrder lent (report-of (now (sequences .entry)) (now (sizes .entry)) (now (sends .entry)) (now (remotes .entry)) (now (receives .entry)) probe moment) .reply) (now (hypothesis .entry)) ⌝ }
     ensures { λ _. ⌜ now («next_timeout» .exit) ≡ Lent.nextTimeoutAfter (Calls.reportInOrder lent (report-of (now (sequences .entry)) (now (sizes .entry)) (now (sends .entry)) (now (remotes .entry)) (now (receives .entry)) probe moment) .reply) (now («next_timeout» .entry)) ⌝ }
@@ -255,7 +255,7 @@ pub extern "C" fn hornetpewter_timeout(
     let acked = lent.acked;
     let control = lent.control;
     let control = control.handle_timeout(acked.current_estimate(), moment);
-    link_words::store(link, acked, control);
+    link_words::store_timeout(link, control);
     tell(bitrate, hypothesis, next_timeout, control);
     0
 }

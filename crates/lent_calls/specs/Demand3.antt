@@ -5,12 +5,15 @@ use mathlib.Core.Path.{_≡_, refl, ap, ap₂, _∙_}
 use mathlib.Core.Bool.{true}
 use mathlib.Core.List.{List, [], _∷_, _++_}
 use lib.IntN.{pos}
+use Rattle.bool_laws.specs.Bools.{chosen}
 use Rattle.bandwidth.specs.declared.Bitrate.{Bitrate}
 use Rattle.recovery.specs.Recovery.{Change}
+use Rattle.control.specs.Control as Control
+use Rattle.control.specs.declared.DelayController.{DelayController}
 use Rattle.questions.specs.Questions.{Question, firstNo, ofOpening}
 use Rattle.link_state.specs.State.{inRange}
 use Rattle.link_state.specs.declared.Link.{Link}
-use Rattle.link_words.specs.Laws.{Held, LinkHeld, words-formed, words-load}
+use Rattle.link_words.specs.Laws.{Held, LinkHeld, withTimeout, words-formed, words-load, words-timeout}
 use Rattle.link_words.specs.LinkWords.{toWords}
 use Rattle.link.specs.Link as L
 use Rattle.link.specs.Link.{Outcome, accepted, estimate, hypothesis, nextTimeout, opened, opening, startedUnless}
@@ -21,9 +24,15 @@ use Rattle.link_runs.specs.Answered.{Answered, report-answered, timeout-answere
 use Rattle.link_runs.specs.Answered.Answered.{turnedDown, taken}
 use Rattle.link_runs.specs.Demand3.{demand-3}
 use Rattle.link_runs.specs.InRange.{reached-in-range}
-use Rattle.lent_calls.specs.LentCalls.{after, openCode, openWords, read, replyTo, wordsAfter}
+use Rattle.lent_calls.specs.LentCalls.{after, openCode, openWords, read, replyTo, stored, wordsAfter}
 use Rattle.lent_calls.specs.Held.{call-held, opened-held}
 use Rattle.lent_calls.specs.Statement.{CallsHeld, Demand3, IsRun, RangeAndRecovery, RunsOfTheLink, estimateRead, handedAll, runWords, thresholdRead}
+
+-- a timeout changes the rate control and the next timeout only
+timeout-changes : (l : Link) (now : ℕ) → withTimeout (L.timedOut l now .control) l ≡ L.timedOut l now
+unfolding L.timedOut Control.handleTimeout Control.updateEstimate Control.withRate
+timeout-changes l now =
+    chosen (λ (c : DelayController). withTimeout c l ≡ record { acked = l .acked; control = c }) (Control.trendlineHypothesisValid (l .control) now) refl refl
 
 -- ---- one call on a stored link
 module _ (l : Link) (h : LinkHeld l) where
@@ -35,13 +44,14 @@ module _ (l : Link) (h : LinkHeld l) where
   unfolding after L.acceptedWith
   stored-after k = rw (stored-reply k, words-load l h) (go k)
     where
-      by : {qs : List Question} {next : Link} {o : Outcome} → Answered qs l next o → wordsAfter (o .reply) (o .link) (toWords l) ≡ toWords (o .link)
-      by turnedDown = refl
-      by (taken y) = refl
+      by : {qs : List Question} {next : Link} {o : Outcome} (k : Call) → Answered qs l next o → stored k next (toWords l) ≡ toWords next
+          → wordsAfter (o .reply) (stored k (o .link) (toWords l)) (toWords l) ≡ toWords (o .link)
+      by k turnedDown e = refl
+      by k (taken y) e = e
 
-      go : (k : Call) → wordsAfter (call l k .reply) (call l k .link) (toWords l) ≡ toWords (call l k .link)
-      go (report r) = by (report-answered l r)
-      go (timeout now) = by (timeout-answered l now)
+      go : (k : Call) → wordsAfter (call l k .reply) (stored k (call l k .link) (toWords l)) (toWords l) ≡ toWords (call l k .link)
+      go (report r) = by (report r) (report-answered l r) refl
+      go (timeout now) = by (timeout now) (timeout-answered l now) (words-timeout l _ (h .trendline .sized) ∙ ap toWords (timeout-changes l now))
 
   pub stored-read : inRange l ≡ true → read (toWords l) ≡ accepted (estimate l) (hypothesis l) (nextTimeout l)
   unfolding read

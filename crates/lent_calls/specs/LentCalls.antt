@@ -10,9 +10,10 @@ use Rattle.bandwidth.specs.declared.OptionBitrate.{OptionBitrate}
 use Rattle.bandwidth.specs.declared.OptionBitrate.the-variants as Rate
 use Rattle.link_state.specs.State.{inRange}
 use Rattle.link_state.specs.declared.Link.{Link}
-use Rattle.link_words.specs.LinkWords.{formed, hypothesisTag, ofWords, toWords}
+use Rattle.link_words.specs.LinkWords.{formed, hypothesisTag, ofWords, timeoutWords, toWords}
 use Rattle.link.specs.Link.{Reply, Started, accepted, estimate, hypothesis, nextTimeout, opened, refused, turnedDown}
 use Rattle.link_runs.specs.Statement.{Call, call, threshold}
+use Rattle.link_runs.specs.Statement.Call.{report, timeout}
 
 -- ---- what C gets for a reply: its code, 0 or the opposite of the number, and what a lent place holds after it
 abbrev pub code : Reply → ℤ
@@ -31,10 +32,9 @@ abbrev pub nextTimeoutAfter : Reply → ℕ → ℕ
 nextTimeoutAfter (accepted e h t) before = t
 nextTimeoutAfter (refused n) before = before
 
--- the words of the link that was handed back
-abbrev pub wordsAfter : Reply → Link → List ℕ → List ℕ
-wordsAfter (accepted e h t) after before = toWords after
-wordsAfter (refused n) after before = before
+abbrev pub wordsAfter : Reply → List ℕ → List ℕ → List ℕ
+wordsAfter (accepted e h t) stored before = stored
+wordsAfter (refused n) stored before = before
 
 -- ---- opening
 abbrev pub openCode : Started → ℤ
@@ -53,8 +53,13 @@ probeResult flag result = cond (eqb flag 0) Rate.None (Rate.Some (record { 0 = r
 unfoldable pub replyTo : List ℕ → Call → Reply
 replyTo w k = cond (formed w) (call (ofWords w) k .reply) (refused 1)
 
+-- the words that an accepted call leaves, from the link that it hands back: a report stores it whole, a timeout what it changes
+abbrev pub stored : Call → Link → List ℕ → List ℕ
+stored (report r) l before = toWords l
+stored (timeout now) l before = timeoutWords (l .control) before
+
 unfoldable pub after : List ℕ → Call → List ℕ
-after w k = wordsAfter (replyTo w k) (call (ofWords w) k .link) w
+after w k = wordsAfter (replyTo w k) (stored k (call (ofWords w) k .link) w) w
 
 -- ---- reading a link without a call
 unfoldable pub read : List ℕ → Reply

@@ -6,13 +6,12 @@ use mathlib.Core.List.{List, [], _∷_, _++_}
 use Prim.Native.Nat.{ℕ, _*_, _^_, _<_}
 use lib.Dec.{T}
 use lib.IntN.{pos}
-use lib.ListN.{getD}
+use lib.ListN.{getD, length}
 use lib.Ieee.{Float, le, nan}
 use lib.Ieee.Scale.{finite}
 use Rattle.float_order.specs.Ops.{zero₊}
 use Rattle.float_order.specs.Range.{In, nat}
 use Rattle.bandwidth.specs.declared.Bitrate.{Bitrate}
-use Rattle.bandwidth.specs.declared.BandwidthUsage.{BandwidthUsage}
 use Rattle.recovery.specs.Recovery.{Change, Each, Reached, Steady, updates}
 use Rattle.link_state.specs.State.{inRange}
 use Rattle.link_state.specs.declared.Link.{Link}
@@ -92,15 +91,17 @@ abbrev pub Refusals : Type 0
 Refusals = (w : List ℕ) (k : Call) (n : ℕ) → replyTo w k ≡ refused n → after w k ≡ w
 
 -- ---- words that are not read
--- one format, and the same wherever a word is read: as a stored link's words, and others that differ from them in no field that is read
+-- 100 words each, of one format, and the same wherever a word is read: as a stored link's words, and others that differ from them in no field that is read
 pub record Alike (v w : List ℕ) : Type 0 where
+  pub first-size : length v ≡ 100
+  pub second-size : length w ≡ 100
   pub format : getD v 0 0 ≡ getD w 0 0
   pub agree : Agree v w
 
--- the same reply to a call, the same words after one that is accepted, the same read
+-- the same reply to a call, the same link after it, the same read
 pub record SameAnswers (v w : List ℕ) : Type 0 where
   pub reply : (k : Call) → replyTo v k ≡ replyTo w k
-  pub stored : (k : Call) (e : Float) (h : BandwidthUsage) (t : ℕ) → replyTo v k ≡ accepted e h t → after v k ≡ after w k
+  pub link : (k : Call) → ofWords (after v k) ≡ ofWords (after w k)
   pub reading : read v ≡ read w
   pub threshold-reading : thresholdRead v ≡ thresholdRead w
 

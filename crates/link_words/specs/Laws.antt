@@ -1,17 +1,18 @@
 -- Words and links: a stored link has the format and loads as it was, what is not read tells nothing.
 use Prim.Native.Nat.{ℕ, zero, suc, _^_, _<_}
 use native.Mathlib.Omega.{arith}
-use mathlib.Core.Path.{_≡_, refl, ap, ap₂, subst}
-use mathlib.Core.Bool.{true, _||_}
+use mathlib.Core.Path.{_≡_, refl, ap, ap₂, subst, _∙_}
+use mathlib.Core.Bool.{Bool, true, false, _&&_, _||_}
 use mathlib.Core.List.{List, [], _∷_}
 use lib.Dec.{T, leb, eqb}
-use lib.ListN.{length, getD}
+use lib.ListN.{length, getD, length-set}
+use lib.Seq.{sets, length-sets}
 use lib.Ieee.{Float, binary64, fits, ofBits, toBits}
 use lib.Ieee.Bits.{ofBits-toBits, ofBits-fits}
 use mir.Facts.{toZ-ofZ, sfits-toZ}
 use mir.Syntax.{w64}
 use mir.Val.{SFits}
-use Rattle.bool_laws.specs.Bools.{chosen}
+use Rattle.bool_laws.specs.Bools.{both, chosen, left}
 use Rattle.average.specs.declared.OptionF64.{OptionF64}
 use Rattle.average.specs.declared.OptionF64.the-variants as F64
 use Rattle.average.specs.declared.MovingAverage.{MovingAverage}
@@ -35,9 +36,11 @@ use Rattle.trendline.specs.declared.TrendlineEstimator.{TrendlineEstimator}
 use Rattle.rate_control.specs.declared.State.{State}
 use Rattle.rate_control.specs.declared.State.the-variants as S
 use Rattle.rate_control.specs.declared.RateControl.{RateControl}
+use Rattle.control.specs.Control.{withRate}
+use Rattle.control.specs.declared.DelayController.{DelayController}
 use Rattle.link_state.specs.Laws.{Sized}
 use Rattle.link_state.specs.declared.Link.{Link}
-use Rattle.link_words.specs.LinkWords.{acked, ackedWords, average, averageBits, averageTag, bitrate, bitrateBits, bitrateTag, control, controlWords, delays, delaysWords, duration, durationNs, durationTag, floats, formed, group, groupTag, groupTimes, groups, groupsWords, history, historyWords, hypothesis, hypothesisTag, instant, instantNs, instantTag, movingAverage, ofWords, overuse, overuseTag, overuseValues, overuseWords, rateControl, rateControlWords, roundTripWords, state, stateTag, timeDelta, timeNs, timeTag, toWords, trendline, trendlineWords}
+use Rattle.link_words.specs.LinkWords.{acked, ackedWords, average, averageBits, averageTag, bitrate, bitrateBits, bitrateTag, control, controlWords, delays, delaysWords, duration, durationNs, durationTag, floats, formed, group, groupTag, groupTimes, groups, groupsWords, history, historyWords, hypothesis, hypothesisTag, instant, instantNs, instantTag, movingAverage, ofWords, overuse, overuseTag, overuseValues, overuseWords, rateControl, rateControlWords, roundTripWords, state, stateTag, timeDelta, timeNs, timeTag, timeoutWords, toWords, trendline, trendlineWords}
 
 -- ---- values of the types: a float is one of binary64, a size an i64, and arrays hold 20. Every link of the code is so.
 abbrev pub Held : Float → Type 0
@@ -183,16 +186,16 @@ state-formed S.Hold = refl
 state-formed S.Decrease = refl
 
 -- ---- lists of a known length, element by element
-listed : ℕ → (ℕ → Float) → List Float
+listed : {A : Type 0} → ℕ → (ℕ → A) → List A
 listed zero f = []
 listed (suc n) f = f 0 ∷ listed n (λ i. f (suc i))
 
-listed-all : (d : Float) (xs : List Float) (n : ℕ) → length xs ≡ n → listed n (λ i. getD xs i d) ≡ xs
+listed-all : {A : Type 0} (d : A) (xs : List A) (n : ℕ) → length xs ≡ n → listed n (λ i. getD xs i d) ≡ xs
 unfolding listed
 listed-all d [] zero e = refl
 listed-all d [] (suc n) e = absurd (omega (arith, e))
 listed-all d (x ∷ xs) zero e = absurd (omega (arith, e))
-listed-all d (x ∷ xs) (suc n) e = ap (λ (r : List Float). x ∷ r) (listed-all d xs n (omega (arith, e)))
+listed-all {A} d (x ∷ xs) (suc n) e = ap (λ (r : List A). x ∷ r) (listed-all d xs n (omega (arith, e)))
 
 listed-back : (n : ℕ) (f : ℕ → Float) → ((i : ℕ) → Held (f i)) → listed n (λ i. ofBits binary64 (toBits binary64 (f i))) ≡ listed n f
 unfolding listed
@@ -231,6 +234,10 @@ with l times delays =
             «last_twcc_report» = l .control .«last_twcc_report»;
           };
     }
+
+-- a link with the rate control and the next timeout of another controller
+abbrev pub withTimeout : DelayController → Link → Link
+withTimeout c l = record { acked = l .acked; control = withRate (l .control) (c .«rate_control») (c .«next_timeout») }
 
 module _ (l : Link) (f g : ℕ → Float) where
   abbrev words : List ℕ
@@ -343,6 +350,11 @@ module _ (l : Link) (f g : ℕ → Float) where
         instant-formed (c .«last_twcc_report»),
       )
 
+  -- a timeout changes the words of its own fields
+  listed-timeout : (c : DelayController) → timeoutWords c words ≡ toWords (withTimeout c (with l (listed 20 f) (listed 20 g)))
+  unfolding withRate timeoutWords listed toWords ackedWords controlWords groupsWords trendlineWords historyWords delaysWords overuseWords rateControlWords roundTripWords
+  listed-timeout c = refl
+
 -- ---- the claims
 module _ (l : Link) where
   abbrev times : List Float
@@ -368,6 +380,95 @@ module _ (l : Link) where
   words-load h =
       of-listed (λ (k : Link). ofWords (toWords k) ≡ k) (h .trendline .sized)
       (listed-loads l (λ i. getD times i zeroFloat) (λ i. getD shifts i zeroFloat) h (held-at times (h .trendline .times)) (held-at shifts (h .trendline .delays)))
+
+  -- the words of a link after a timeout are those of the link with its rate control and next timeout
+  pub words-timeout : (c : DelayController) → Sized (l .control .«trendline_estimator» .history) → timeoutWords c (toWords l) ≡ toWords (withTimeout c l)
+  words-timeout c s =
+      of-listed (λ (k : Link). timeoutWords c (toWords k) ≡ toWords (withTimeout c k)) s (listed-timeout l (λ i. getD times i zeroFloat) (λ i. getD shifts i zeroFloat) c)
+
+-- ---- any 100 words, after a timeout
+pub timeout-length : (c : DelayController) (w : List ℕ) → length (timeoutWords c w) ≡ length w
+unfolding timeoutWords
+timeout-length c w = let r = rateControlWords (c .«rate_control») in length-set (sets w 77 r) 97 (c .«next_timeout») ∙ length-sets w 77 r
+
+-- the rate control that is then loaded
+abbrev reloaded : DelayController → RateControl
+reloaded c = rateControl (timeoutWords c (listed 100 (λ i. 0)))
+
+module _ (c : DelayController) (f : ℕ → ℕ) where
+  abbrev timed : List ℕ
+  timed = timeoutWords c (listed 100 f)
+
+  timed-acked : acked timed ≡ acked (listed 100 f)
+  unfolding acked timeoutWords rateControlWords listed
+  timed-acked = refl
+
+  timed-groups : groups timed ≡ groups (listed 100 f)
+  unfolding groups timeoutWords rateControlWords listed
+  timed-groups = refl
+
+  timed-trendline : trendline timed ≡ trendline (listed 100 f)
+  unfolding trendline history floats delays timeoutWords rateControlWords listed
+  timed-trendline = refl
+
+  timed-rateControl : rateControl timed ≡ reloaded c
+  unfolding rateControl timeoutWords rateControlWords listed
+  timed-rateControl = refl
+
+  timed-loads : ofWords timed ≡ record { acked = acked (listed 100 f); control = withRate (control (listed 100 f)) (reloaded c) (c .«next_timeout») }
+  unfolding ofWords control withRate timeoutWords rateControlWords listed
+  timed-loads = simp (timed-acked, timed-groups, timed-trendline, timed-rateControl)
+
+  timed-formed : formed (listed 100 f) ≡ true → formed timed ≡ true
+  unfolding timeoutWords rateControlWords listed
+  timed-formed e =
+      let r = c .«rate_control» in
+      rw (
+        state-formed (r .state),
+        bitrate-formed (r .«last_observed_bitrate»),
+        average-formed (r .«averaged_observed_bitrate» .average),
+        instant-formed (r .«last_estimate_update»),
+        duration-formed (r .«last_rtt»),
+      )
+      (kept
+      (eqb (f 0) 1 && leb (f 3) 1 && leb (f 8) 1 && leb (f 10) 1 && leb (f 12) 1 && leb (f 17) 1 && leb (f 22) 1 && leb (f 70) 1 && (eqb (f 70) 0 || leb (f 72) 3) && leb (f 74) 1 && leb (f 76) 2)
+      (leb (f 77) 2)
+      (leb (f 81) 1)
+      (leb (f 84) 1)
+      (leb (f 88) 1)
+      (leb (f 90) 1)
+      (leb (f 93) 1)
+      (leb (f 98) 1)
+      e)
+    where
+      and : (s t : Bool) → s ≡ true → t ≡ true → (s && t) ≡ true
+      and true t p q = q
+      and false t p q = p
+
+      kept : (before s b a i d x y : Bool) → (before && s && b && a && i && d && x && y) ≡ true → (before && true && true && true && true && true && x && y) ≡ true
+      kept before s b a i d x y e =
+          let p = both _ y e in
+          let q = both _ x (p .0) in
+          let h = left before s (left _ b (left _ a (left _ i (left _ d (q .0))))) in
+          and _ y (and _ x (and _ true (and _ true (and _ true (and _ true (and before true h refl) refl) refl) refl) refl) (q .1)) (p .1)
+
+module _ (c : DelayController) (w : List ℕ) (size : length w ≡ 100) where
+  of-words : (P : List ℕ → Type 0) → P (listed 100 (λ i. getD w i 0)) → P w
+  of-words P p = subst P (listed-all 0 w 100 size) p
+
+  timeout-loads : ofWords (timeoutWords c w) ≡ record { acked = ofWords w .acked; control = withRate (ofWords w .control) (reloaded c) (c .«next_timeout») }
+  unfolding ofWords
+  timeout-loads =
+      of-words (λ (v : List ℕ). ofWords (timeoutWords c v) ≡ record { acked = acked v; control = withRate (control v) (reloaded c) (c .«next_timeout») })
+      (timed-loads c (λ i. getD w i 0))
+
+  -- they have the format, if they had it
+  pub timeout-formed : formed w ≡ true → formed (timeoutWords c w) ≡ true
+  timeout-formed = of-words (λ (v : List ℕ). formed v ≡ true → formed (timeoutWords c v) ≡ true) (timed-formed c (λ i. getD w i 0))
+
+-- and if they loaded as others did, they still do
+pub timeout-alike : (c : DelayController) (v w : List ℕ) → length v ≡ 100 → length w ≡ 100 → ofWords v ≡ ofWords w → ofWords (timeoutWords c v) ≡ ofWords (timeoutWords c w)
+timeout-alike c v w m n e = rw (timeout-loads c v m, timeout-loads c w n, e) refl
 
 -- ---- what is loaded is of the types, so it is stored and loaded again without change
 floats-held : (w : List ℕ) (i n : ℕ) → (length (floats w i n) ≡ n) × AllHeld (floats w i n)

@@ -3,7 +3,8 @@ use Prim.Native.Nat.{ℕ, zero, suc}
 use mathlib.Core.Bool.{Bool, cond, _&&_, _||_}
 use mathlib.Core.List.{List, [], _∷_, _++_, map}
 use lib.Dec.{leb, eqb}
-use lib.ListN.{getD}
+use lib.ListN.{getD, set}
+use lib.Seq.{sets}
 use lib.Ieee.{Float, binary64, ofBits, toBits}
 use mir.Syntax.{w64}
 use mir.Val.{ofZ, toZ}
@@ -362,3 +363,7 @@ controlWords c =
 
 unfoldable pub toWords : Link → List ℕ
 toWords l = 1 ∷ ackedWords (l .acked) ++ controlWords (l .control)
+
+-- the words after a timeout, which changes the rate control and the next timeout only
+unfoldable pub timeoutWords : DelayController → List ℕ → List ℕ
+timeoutWords c w = set (sets w 77 (rateControlWords (c .«rate_control»))) 97 (c .«next_timeout»)

@@ -703,6 +703,15 @@ pub fn store(words: &mut [u64; 100], acked: AckedBitrateEstimator, control: Dela
     store_control(words, control);
 }
 
+// Stores what a timeout changes of a link, its rate control and its next timeout. The other words stay.
+pub fn store_timeout(words: &mut [u64; 100], control: DelayController)
+    ensures { λ _. ⌜ now (words .exit) ≡ Words.timeoutWords control (now (words .entry)) ⌝ }
+{
+    let rate_control = control.rate_control;
+    store_rate_control(words, rate_control);
+    words[97] = control.next_timeout;
+}
+
 // The words of a link.
 pub fn words(link: Link) -> [u64; 100]
     ensures { λ r. ⌜ r ≡ Words.toWords link ⌝ }

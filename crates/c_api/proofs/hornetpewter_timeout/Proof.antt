@@ -7,7 +7,7 @@ use Rattle.questions.specs.declared.Refusal.the-variants.{OutOfRange}
 use Rattle.link_state.specs.declared.Link.{Link}
 use Rattle.link.specs.Laws.{timeout-from-7}
 use Rattle.link.proofs.Laws.{timed-refused, timed-taken, told}
-use Rattle.c_api.proofs.Laws.{bitrate-no, bitrate-yes, call-out, code-no, code-yes, hypothesis-no, hypothesis-yes, next-timeout-no, next-timeout-yes, reply-is, shown-is, words-is, words-kept, words-taken}
+use Rattle.c_api.proofs.Laws.{bitrate-no, bitrate-yes, call-out, code-no, code-yes, hypothesis-no, hypothesis-yes, next-timeout-no, next-timeout-yes, reply-is, shown-is, timeout-taken, words-is, words-kept}
 use Rattle.c_api.proofs.hornetpewter_timeout.Statement.{statement}
 use Rattle.c_api.proofs.hornetpewter_timeout.Tie as tie
 
@@ -36,7 +36,7 @@ returns-3 c =
     let none = told (q7 .timeout .ensures) (update .before .before .before .before .enum-told .given .1) in
     let taken = timeout-from-7 _ _ (good .1) ∙ sym (timed-taken _ _ none (update .before .current-estimate .ensures) (update .handle-timeout .ensures)) in
     let yes = shown-is after taken ∙ reply-is _ (load .ensures) _ (good .0) refl in
-    (code-yes after yes, (c .before .before .before .before .store .ensures ∙ words-taken after taken _ ∙ words-is _ (load .ensures) _ (good .0) refl, (tell .0 ∙ bitrate-yes after yes _, (tell .1 .0 ∙ hypothesis-yes after yes _, tell .1 .1 ∙ next-timeout-yes after yes _))))
+    (code-yes after yes, (c .before .before .before .before .store-timeout .ensures ∙ timeout-taken after taken _ ∙ words-is _ (load .ensures) _ (good .0) refl, (tell .0 ∙ bitrate-yes after yes _, (tell .1 .0 ∙ hypothesis-yes after yes _, tell .1 .1 ∙ next-timeout-yes after yes _))))
 
 pub hornetpewter-timeout-spec : {M : Type 1} → statement M
 hornetpewter-timeout-spec =
