@@ -1,4 +1,4 @@
--- Calls on any words: question 1, refusals, and words that are not read.
+-- Calls on any words: question 1, calls of the link that they hold, refusals, and words that are not read.
 use Prim.Native.Nat.{ℕ}
 use native.Mathlib.Omega.{arith}
 use mathlib.Core.Path.{_≡_, refl, sym, ap, _∙_}
@@ -11,15 +11,21 @@ use Rattle.bandwidth.specs.declared.BandwidthUsage.{BandwidthUsage}
 use Rattle.control.specs.declared.DelayController.{DelayController}
 use Rattle.link_state.specs.State.{inRange}
 use Rattle.link_state.specs.declared.Link.{Link}
-use Rattle.link_words.specs.Laws.{timeout-alike, timeout-formed, timeout-length}
+use Rattle.link_words.specs.Laws.{LinkHeld, loaded-held, timeout-alike, timeout-formed, timeout-length, timeout-loads, words-load}
 use Rattle.link_words.specs.LinkWords.{formed, ofWords, timeoutWords}
 use Rattle.link_words.specs.Reading.{formed-alike, words-alike}
+use Rattle.questions.specs.Questions.{Question, ordered}
+use Rattle.link.specs.Link as L
 use Rattle.link.specs.Laws.{report-1, timeout-1}
-use Rattle.link.specs.Link.{Reply, accepted, refused, refusedBy}
+use Rattle.link.specs.Link.{Outcome, Reply, accepted, refused, refusedBy}
 use Rattle.link_runs.specs.Statement.{Call, call, threshold}
 use Rattle.link_runs.specs.Statement.Call.{report, timeout}
+use Rattle.link_runs.specs.Answered.{Answered, report-answered, timeout-answered}
+use Rattle.link_runs.specs.Answered.Answered.{turnedDown, taken}
+use Rattle.lent_calls.specs.Demand3.{timeout-changes}
+use Rattle.lent_calls.specs.Held.{timed-out-held, updated-held}
 use Rattle.lent_calls.specs.LentCalls.{after, read, replyTo, stored, thresholdAfter, wordsAfter}
-use Rattle.lent_calls.specs.Statement.{Question1, Refusals, SameAnswers, UnreadWords, runWords, thresholdRead}
+use Rattle.lent_calls.specs.Statement.{CallHeld, CallsOfTheLink, Question1, Refusals, SameAnswers, UnreadWords, runWords, thresholdRead}
 
 -- ---- question 1
 call-1 : (l : Link) (k : Call) → inRange l ≡ false → call l k ≡ refusedBy 1 l
@@ -39,6 +45,24 @@ unfolding replyTo read
 question-1 w n1 =
     let l = ofWords w in
     (λ k. uncalled (formed w) (inRange l) (call l k .reply) (λ e. rw (call-1 l k e)) n1, unread (formed w) (inRange l) _ n1)
+
+-- ---- a call of the link that they hold
+pub calls-of-the-link : CallsOfTheLink
+unfolding after replyTo L.acceptedWith
+calls-of-the-link w k lent h form = (rw form, rw form (go k h))
+  where
+    held : LinkHeld (ofWords w)
+    held = loaded-held w (lent .below 6)
+
+    by : {qs : List Question} {next : Link} {o : Outcome} (k : Call) → Answered qs (ofWords w) next o → ofWords (stored k next w) ≡ next → ofWords (wordsAfter (o .reply) (stored k (o .link) w) w) ≡ o .link
+    by k turnedDown e = refl
+    by k (taken y) e = e
+
+    go : (k : Call) → CallHeld k → ofWords (wordsAfter (call (ofWords w) k .reply) (stored k (call (ofWords w) k .link) w) w) ≡ call (ofWords w) k .link
+    go (report r) p = by (report r) (report-answered (ofWords w) r) (words-load _ (updated-held (ofWords w) (ordered r) p held))
+    go (timeout now) p =
+        by (timeout now) (timeout-answered (ofWords w) now)
+        (timeout-loads _ w (lent .size) (timed-out-held (ofWords w) now held .rate-control) ∙ timeout-changes (ofWords w) now)
 
 pub refusals : Refusals
 unfolding after

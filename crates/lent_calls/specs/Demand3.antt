@@ -29,7 +29,7 @@ use Rattle.lent_calls.specs.Held.{call-held, opened-held}
 use Rattle.lent_calls.specs.Statement.{CallsHeld, Demand3, IsRun, RangeAndRecovery, RunsOfTheLink, estimateRead, handedAll, runWords, thresholdRead}
 
 -- a timeout changes the rate control and the next timeout only
-timeout-changes : (l : Link) (now : ℕ) → withTimeout (L.timedOut l now .control) l ≡ L.timedOut l now
+pub timeout-changes : (l : Link) (now : ℕ) → withTimeout (L.timedOut l now .control) l ≡ L.timedOut l now
 unfolding L.timedOut Control.handleTimeout Control.updateEstimate Control.withRate
 timeout-changes l now =
     chosen (λ (c : DelayController). withTimeout c l ≡ record { acked = l .acked; control = c }) (Control.trendlineHypothesisValid (l .control) now) refl refl

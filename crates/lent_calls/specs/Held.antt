@@ -367,7 +367,7 @@ rtt-held m Duration.None h = h
 rtt-held m (Duration.Some rtt) h = update-average m (asSecsF64 rtt) (secs-fits rtt) h
 
 -- ---- a call
-updated-held : (l : Link) (r : Report) → RateHeld (r .probe) → LinkHeld l → LinkHeld (L.updated l r)
+pub updated-held : (l : Link) (r : Report) → RateHeld (r .probe) → LinkHeld l → LinkHeld (L.updated l r)
 unfolding L.updated Control.update Control.updateEstimate Control.withRate Control.withPackets
 updated-held l r k h =
     let acked = acknowledge-held (l .acked) (r .remotes) (r .sizes) (h .acked) in
@@ -379,7 +379,7 @@ updated-held l r k h =
       smoothed-rtt = rtt-held (l .control .«smoothed_rtt») (Control.maxRtt (r .sends) (r .receives)) (h .smoothed-rtt);
     }
 
-timed-out-held : (l : Link) (now : ℕ) → LinkHeld l → LinkHeld (L.timedOut l now)
+pub timed-out-held : (l : Link) (now : ℕ) → LinkHeld l → LinkHeld (L.timedOut l now)
 unfolding L.timedOut Control.handleTimeout Control.updateEstimate Control.withRate
 timed-out-held l now h =
     chosen (λ (c : DelayController). LinkHeld (record { acked = l .acked; control = c })) (Control.trendlineHypothesisValid (l .control) now)

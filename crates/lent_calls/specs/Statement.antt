@@ -1,7 +1,7 @@
 -- What is claimed of a link that is lent as words, as C and Rust hold one: calls on its words are a run of the link, its estimate cannot be jammed (demand 3), whatever
--- the words hold a call meets question 1 first and a refusal leaves them, and words that are not read tell nothing. The proofs are Demand3.antt and AnyWords.antt.
+-- the words hold a call meets question 1 first, is one of the link that they hold and leaves them where it is refused, and words that are not read tell nothing. The proofs are Demand3.antt and AnyWords.antt.
 use mathlib.Core.Path.{_≡_}
-use mathlib.Core.Bool.{false, _&&_}
+use mathlib.Core.Bool.{true, false, _&&_}
 use mathlib.Core.List.{List, [], _∷_, _++_}
 use Prim.Native.Nat.{ℕ, _*_, _^_, _<_}
 use lib.Dec.{T}
@@ -85,6 +85,15 @@ Demand3 =
 -- of another format, with an unknown tag or of a link out of range: every call and reading give question 1's number
 abbrev pub Question1 : Type 0
 Question1 = (w : List ℕ) → (formed w && inRange (ofWords w)) ≡ false → ((k : Call) → replyTo w k ≡ refused 1) × (read w ≡ refused 1)
+
+-- else a call is one of the link that they hold, for 100 words of 64 bits
+pub record Lent (w : List ℕ) : Type 0 where
+  pub size : length w ≡ 100
+  pub below : (i : ℕ) → getD w i 0 < 2 ^ 64
+
+abbrev pub CallsOfTheLink : Type 0
+CallsOfTheLink =
+    (w : List ℕ) (k : Call) → Lent w → CallHeld k → formed w ≡ true → (replyTo w k ≡ call (ofWords w) k .reply) × (ofWords (after w k) ≡ call (ofWords w) k .link)
 
 -- a refusal leaves them
 abbrev pub Refusals : Type 0

@@ -235,6 +235,24 @@ with l times delays =
           };
     }
 
+-- ---- a rate control that is stored and loaded
+abbrev reloaded : RateControl → RateControl
+reloaded c = rateControl (sets (listed 100 (λ i. 0)) 77 (rateControlWords c))
+
+reloaded-same : (c : RateControl) → RateControlHeld c → reloaded c ≡ c
+unfolding rateControl rateControlWords listed
+reloaded-same c h =
+    simp (
+      state-back (c .state),
+      ofBits-toBits binary64 (c .«estimated_bitrate» .0) (h .estimate),
+      ofBits-toBits binary64 (c .«min_bitrate» .0) (h .least),
+      ofBits-toBits binary64 (c .«max_bitrate» .0) (h .most),
+      bitrate-back (c .«last_observed_bitrate») (h .observed),
+      average-back (c .«averaged_observed_bitrate») (h .averaged),
+      instant-back (c .«last_estimate_update»),
+      duration-back (c .«last_rtt»),
+    )
+
 -- a link with the rate control and the next timeout of another controller
 abbrev pub withTimeout : DelayController → Link → Link
 withTimeout c l = record { acked = l .acked; control = withRate (l .control) (c .«rate_control») (c .«next_timeout») }
@@ -271,18 +289,7 @@ module _ (l : Link) (f g : ℕ → Float) where
 
   rateControl-back : RateControlHeld (l .control .«rate_control») → rateControl words ≡ l .control .«rate_control»
   unfolding rateControl listed toWords ackedWords controlWords groupsWords trendlineWords historyWords delaysWords overuseWords rateControlWords
-  rateControl-back h =
-      let c = l .control .«rate_control» in
-      simp (
-        state-back (c .state),
-        ofBits-toBits binary64 (c .«estimated_bitrate» .0) (h .estimate),
-        ofBits-toBits binary64 (c .«min_bitrate» .0) (h .least),
-        ofBits-toBits binary64 (c .«max_bitrate» .0) (h .most),
-        bitrate-back (c .«last_observed_bitrate») (h .observed),
-        average-back (c .«averaged_observed_bitrate») (h .averaged),
-        instant-back (c .«last_estimate_update»),
-        duration-back (c .«last_rtt»),
-      )
+  rateControl-back h = reloaded-same (l .control .«rate_control») h
 
   trendline-back : TrendlineHeld (l .control .«trendline_estimator») → ((i : ℕ) → Held (f i)) → ((i : ℕ) → Held (g i)) → trendline words ≡ with l (listed 20 f) (listed 20 g) .control .«trendline_estimator»
   unfolding trendline listed toWords ackedWords controlWords groupsWords trendlineWords historyWords delaysWords overuseWords
@@ -391,10 +398,6 @@ pub timeout-length : (c : DelayController) (w : List ℕ) → length (timeoutWor
 unfolding timeoutWords
 timeout-length c w = let r = rateControlWords (c .«rate_control») in length-set (sets w 77 r) 97 (c .«next_timeout») ∙ length-sets w 77 r
 
--- the rate control that is then loaded
-abbrev reloaded : DelayController → RateControl
-reloaded c = rateControl (timeoutWords c (listed 100 (λ i. 0)))
-
 module _ (c : DelayController) (f : ℕ → ℕ) where
   abbrev timed : List ℕ
   timed = timeoutWords c (listed 100 f)
@@ -411,11 +414,11 @@ module _ (c : DelayController) (f : ℕ → ℕ) where
   unfolding trendline history floats delays timeoutWords rateControlWords listed
   timed-trendline = refl
 
-  timed-rateControl : rateControl timed ≡ reloaded c
+  timed-rateControl : rateControl timed ≡ reloaded (c .«rate_control»)
   unfolding rateControl timeoutWords rateControlWords listed
   timed-rateControl = refl
 
-  timed-loads : ofWords timed ≡ record { acked = acked (listed 100 f); control = withRate (control (listed 100 f)) (reloaded c) (c .«next_timeout») }
+  timed-loads : ofWords timed ≡ record { acked = acked (listed 100 f); control = withRate (control (listed 100 f)) (reloaded (c .«rate_control»)) (c .«next_timeout») }
   unfolding ofWords control withRate timeoutWords rateControlWords listed
   timed-loads = simp (timed-acked, timed-groups, timed-trendline, timed-rateControl)
 
@@ -456,11 +459,15 @@ module _ (c : DelayController) (w : List ℕ) (size : length w ≡ 100) where
   of-words : (P : List ℕ → Type 0) → P (listed 100 (λ i. getD w i 0)) → P w
   of-words P p = subst P (listed-all 0 w 100 size) p
 
-  timeout-loads : ofWords (timeoutWords c w) ≡ record { acked = ofWords w .acked; control = withRate (ofWords w .control) (reloaded c) (c .«next_timeout») }
+  reloads : ofWords (timeoutWords c w) ≡ record { acked = ofWords w .acked; control = withRate (ofWords w .control) (reloaded (c .«rate_control»)) (c .«next_timeout») }
   unfolding ofWords
-  timeout-loads =
-      of-words (λ (v : List ℕ). ofWords (timeoutWords c v) ≡ record { acked = acked v; control = withRate (control v) (reloaded c) (c .«next_timeout») })
+  reloads =
+      of-words (λ (v : List ℕ). ofWords (timeoutWords c v) ≡ record { acked = acked v; control = withRate (control v) (reloaded (c .«rate_control»)) (c .«next_timeout») })
       (timed-loads c (λ i. getD w i 0))
+
+  -- they load as the link before, with that rate control and next timeout
+  pub timeout-loads : RateControlHeld (c .«rate_control») → ofWords (timeoutWords c w) ≡ withTimeout c (ofWords w)
+  timeout-loads h = rw (reloads, reloaded-same (c .«rate_control») h) refl
 
   -- they have the format, if they had it
   pub timeout-formed : formed w ≡ true → formed (timeoutWords c w) ≡ true
@@ -468,7 +475,7 @@ module _ (c : DelayController) (w : List ℕ) (size : length w ≡ 100) where
 
 -- and if they loaded as others did, they still do
 pub timeout-alike : (c : DelayController) (v w : List ℕ) → length v ≡ 100 → length w ≡ 100 → ofWords v ≡ ofWords w → ofWords (timeoutWords c v) ≡ ofWords (timeoutWords c w)
-timeout-alike c v w m n e = rw (timeout-loads c v m, timeout-loads c w n, e) refl
+timeout-alike c v w m n e = rw (reloads c v m, reloads c w n, e) refl
 
 -- ---- what is loaded is of the types, so it is stored and loaded again without change
 floats-held : (w : List ℕ) (i n : ℕ) → (length (floats w i n) ≡ n) × AllHeld (floats w i n)
