@@ -1,8 +1,8 @@
 -- Codes as i64, what C gets for an answer, and question 1 of lent words.
 use Prim.Native.Nat.{ℕ, zero, suc, _<_, _^_}
 use native.Mathlib.Omega.{arith}
-use mathlib.Core.Path.{_≡_, refl, sym, ap, _∙_}
-use mathlib.Core.Bool.{Bool, true, false, cond, _&&_, true≢false}
+use mathlib.Core.Path.{_≡_, sym, ap, _∙_}
+use mathlib.Core.Bool.{true, false, _&&_}
 use mathlib.Core.List.{List}
 use lib.IntN.{ℤ, pos, negℤ, _-ℤ_, +ℤ-idl}
 use lib.Signed.{mag}
@@ -17,19 +17,14 @@ use Rattle.questions.specs.declared.Refusal.the-variants as Refusal
 use Rattle.link_state.specs.State.{inRange}
 use Rattle.link_state.specs.declared.Link.{Link}
 use Rattle.link_words.specs.LinkWords.{formed, hypothesisTag, ofWords, timeoutWords, toWords}
-use Rattle.link.specs.Link.{Outcome, Reply, accepted, acceptedWith, estimate, hypothesis, nextTimeout, refused, refusedBy}
-use Rattle.link.specs.Laws.{report-1, timeout-1}
+use Rattle.link.specs.Link.{Outcome, Reply, accepted, acceptedWith, estimate, hypothesis, nextTimeout, refused}
 use Rattle.link_runs.specs.Statement.{Call, call, threshold}
-use Rattle.link_runs.specs.Statement.Call.{report, timeout}
+use Rattle.lent_calls.specs.AnyWords.{question-1}
 use Rattle.lent_calls.specs.LentCalls.{after, bitrateAfter, code, hypothesisAfter, nextTimeoutAfter, read, replyTo, stored, thresholdAfter, wordsAfter}
 
 -- what an accepted call shows of the link that it hands back
 abbrev pub shown : Link → Reply
 shown l = accepted (estimate l) (hypothesis l) (nextTimeout l)
-
-call-1 : (l : Link) (k : Call) → inRange l ≡ false → call l k ≡ refusedBy 1 l
-call-1 l (report r) n1 = report-1 l r n1
-call-1 l (timeout now) n1 = timeout-1 l now n1
 
 -- ---- codes
 pub number-below : (q : Refusal) → number q < 10
@@ -111,14 +106,12 @@ module _ (l : Link) {o : Outcome} (taken : o ≡ acceptedWith l) where
 
 -- ---- question 1, of words and of the link that was loaded from them
 module _ (w : List ℕ) {l : Link} (loaded : l ≡ ofWords w) where
+  -- words that stand for no link in range
+  unread : (formed w && inRange l) ≡ false → ((k : Call) → replyTo w k ≡ refused 1) × (read w ≡ refused 1)
+  unread out = question-1 w (ap (λ (m : Link). formed w && inRange m) (sym loaded) ∙ out)
+
   pub read-out : (formed w && inRange l) ≡ false → read w ≡ refused 1
-  unfolding read
-  read-out out = rw (sym loaded) (either (formed w) (inRange l) out)
-    where
-      either : (s t : Bool) → (s && t) ≡ false → cond s (cond t (shown l) (refused 1)) (refused 1) ≡ refused 1
-      either true true e = absurd (true≢false e)
-      either true false e = refl
-      either false t e = refl
+  read-out out = unread out .1
 
   pub read-in : (formed w && inRange l) ≡ true → shown l ≡ read w
   unfolding read
@@ -126,13 +119,7 @@ module _ (w : List ℕ) {l : Link} (loaded : l ≡ ofWords w) where
 
   module _ (k : Call) where
     pub call-out : (formed w && inRange l) ≡ false → replyTo w k ≡ refused 1
-    unfolding replyTo
-    call-out out = rw (sym loaded) (either (formed w) (inRange l) refl out)
-      where
-        either : (s t : Bool) → inRange l ≡ t → (s && t) ≡ false → cond s (call l k .reply) (refused 1) ≡ refused 1
-        either true true i e = absurd (true≢false e)
-        either true false i e = ap (λ (o : Outcome). o .reply) (call-1 l k i)
-        either false t i e = refl
+    call-out out = unread out .0 k
 
     -- of what a call gives
     module _ (e : formed w ≡ true) {o : Outcome} (told : o ≡ call l k) where

@@ -29,7 +29,6 @@ use Rattle.time.specs.declared.TimeDelta.the-variants as Delta
 use Rattle.acked_bitrate_estimator.specs.declared.AckedBitrateEstimator.{AckedBitrateEstimator}
 use Rattle.arrival_group.specs.declared.OptionGroup.{OptionGroup}
 use Rattle.arrival_group.specs.declared.OptionGroup.the-variants as G
-use Rattle.trendline.specs.declared.History.{History}
 use Rattle.trendline.specs.declared.OptionOveruse.{OptionOveruse}
 use Rattle.trendline.specs.declared.OptionOveruse.the-variants as Over
 use Rattle.trendline.specs.declared.TrendlineEstimator.{TrendlineEstimator}
