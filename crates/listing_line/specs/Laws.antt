@@ -70,10 +70,10 @@ module _ («record» number letter bits nextTimeout : ℕ) where
   unfolding line
   length-line = simp (length-append, length-digits) (omega arith)
 
-  -- a line of a pass file: 1,365 of them have room in 65,536 bytes
-  pub line-short : «record» ≤ 1365 → number ≤ 13 → nextTimeout ≤ 2_000_000_000_000_000_000 → length (line «record» number letter bits nextTimeout) ≤ 48
+  -- a line of a pass file: at most five digits of a record's number, one of a refusal, 19 of a moment
+  pub line-short : «record» ≤ 65535 → number ≤ 9 → nextTimeout ≤ 2_000_000_000_000_000_000 → length (line «record» number letter bits nextTimeout) ≤ 48
   line-short h i j =
-      omega (arith, length-line, width-le 3 «record» (omega arith), width-le 1 number (omega arith), width-le 18 nextTimeout (omega arith))
+      omega (arith, length-line, width-le 4 «record» (omega arith), width-le 0 number (omega arith), width-le 18 nextTimeout (omega arith))
 
 -- ---- the bytes of a line: 0 to 9, a to f, the letter, a space, a line feed
 pub data Printed (letter x : ℕ) : Type 0 where

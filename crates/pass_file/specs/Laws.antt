@@ -4,7 +4,7 @@ use mathlib.Core.Path.{_≡_, refl, sym}
 use mathlib.Core.Bool.{Bool, true, false, cond}
 use mathlib.Core.List.{List, [], _∷_, _++_, map, append-assoc}
 use native.Mathlib.Omega.{arith}
-use lib.Dec.{eqb, leb}
+use lib.Dec.{eqb}
 use lib.Ieee.{binary64, toBits}
 use lib.ListN.{length, length-append}
 use Rattle.float_order.specs.Range.{In, nat}
@@ -20,13 +20,13 @@ use Rattle.link_runs.specs.Statement.{Call, call, report, timeout, run}
 use Rattle.link_runs.specs.Good.{Good, call-good, run-good, opening-good}
 use Rattle.link_runs.specs.Demand3.{demand-3}
 use Rattle.pass_records.specs.PassRecords as Records
-use Rattle.pass_records.specs.PassRecords.{chain, judge, kind, mostRecords, number, recordAt, recordCount}
-use Rattle.pass_records.specs.Laws.{Rising, linked-file}
+use Rattle.pass_records.specs.PassRecords.{chain, judge, kind, mostRecords, mostShort, number, recordAt, recordCount}
+use Rattle.pass_records.specs.Laws.{Rising, least-enough, linked-file}
 use Rattle.pass_records.specs.declared.Judged.{Judged}
-use Rattle.pass_records.specs.declared.Judged.the-variants.{Linked, BadLength, BadKind, BadNext}
+use Rattle.pass_records.specs.declared.Judged.the-variants.{Linked, BadLength, BadKind, BadNext, ShortOutput}
 use Rattle.listing_line.specs.Laws.{line-short}
 use Rattle.pass_file.specs.PassFile as PassFile
-use Rattle.pass_file.specs.PassFile.{Numbered, answerUnless, calls, first, leastOutput, letter, lines, list, listed, listing, shown}
+use Rattle.pass_file.specs.PassFile.{Numbered, answerUnless, calls, first, letter, lines, list, listed, listing, shown}
 
 -- ---- the length of a line
 -- no question has a number above n
@@ -146,43 +146,69 @@ pub record ListingOfRun (file : List ℕ) : Type 0 where
   pub line-of : (before : List Numbered) (c : Numbered) (after : List Numbered) → fileCalls file ≡ before ++ (c ∷ after) → LineOf file before c after
   pub few : length (fileCalls file) ≤ recordCount file
   pub short : length (listing file) ≤ 48 * recordCount file
-  pub most : length (listing file) ≤ 65520
 
-pub listing-of-run : (file : List ℕ) → judge file ≡ Linked → ListingOfRun file
-unfolding listing
-listing-of-run file e =
-    let f = linked-file file e in
-    let n = calls-few file [] (chain file) 0 (recordCount file) (f .most) (f .rising) in
-    let s = lines-short first (fileCalls file) first-good (n .numbers) in
-    record {
-      start = first-opened;
-      line-of = λ before c after p.
-          let handed-on = run-one-more c first before in
-          let all = demand-3 (bps 1000000) 500000000 150000000 first first-opened (runCalls (before ++ (c ∷ []))) in
-          record {
-            place = rw p (lines-split c first before after);
-            handed-on = sym handed-on;
-            estimate-in = rw handed-on at (all .estimate-in);
-            short = shown-short (linkAfter before) (c .call) (c .number) (run-good first (runCalls before) first-good) (number-in before after c (rw p at (n .numbers)));
-          };
-      few = omega arith;
-      short = omega arith;
-      most = omega arith;
-    }
+module _ (most : ℕ) (m : most ≤ mostRecords) (file : List ℕ) (output : ℕ) (e : judge most file output ≡ Linked) where
+  pub listing-of-run : ListingOfRun file
+  unfolding listing
+  listing-of-run =
+      let f = linked-file most file output e in
+      let n = calls-few file [] (chain file) 0 (recordCount file) (omega (arith, f .counted .few)) (f .rising) in
+      let s = lines-short first (fileCalls file) first-good (n .numbers) in
+      record {
+        start = first-opened;
+        line-of = λ before c after p.
+            let handed-on = run-one-more c first before in
+            let all = demand-3 (bps 1000000) 500000000 150000000 first first-opened (runCalls (before ++ (c ∷ []))) in
+            record {
+              place = rw p (lines-split c first before after);
+              handed-on = sym handed-on;
+              estimate-in = rw handed-on at (all .estimate-in);
+              short = shown-short (linkAfter before) (c .call) (c .number) (run-good first (runCalls before) first-good) (number-in before after c (rw p at (n .numbers)));
+            };
+        few = omega (arith, n .few, f .few);
+        short = omega (arith, s, n .few, f .few);
+      }
+
+  -- it fits into the output
+  pub listing-fits : length (listing file) ≤ output
+  listing-fits = omega (arith, listing-of-run .short, least-enough (recordCount file), linked-file most file output e .enough)
 
 -- ---- the answer to a file
-pub linked-if-zero : (j : Judged) (room : ℕ) → cond (eqb (number j) 0) (cond (leb leastOutput room) 0 13) (number j) ≡ 0 → j ≡ Linked
-linked-if-zero Linked room e = refl
-linked-if-zero BadLength room e = cc
-linked-if-zero BadKind room e = cc
-linked-if-zero BadNext room e = cc
+pub number-linked : (j : Judged) → number j ≡ 0 → j ≡ Linked
+number-linked Linked e = refl
+number-linked BadLength e = cc
+number-linked BadKind e = cc
+number-linked BadNext e = cc
+number-linked ShortOutput e = cc
 
-answer-most : (question : ℕ) (text : List ℕ) (n : ℕ) → (question ≡ 0 → length text ≤ 65520) → answerUnless question text ≡ listed n → n ≤ 65520
-answer-most zero text n h e = let same : length text ≡ n = cc in omega (arith, h refl)
-answer-most (suc question) text n h e = let z : _≡_ {A = ℕ} 0 1 = cc in omega arith
+answer-listed : (question : ℕ) (text : List ℕ) (n : ℕ) → answerUnless question text ≡ listed n → (question ≡ 0) × (n ≡ length text)
+answer-listed zero text n e = (refl, cc)
+answer-listed (suc question) text n e = absurd (let z : _≡_ {A = ℕ} 0 1 = cc in omega arith)
 
--- a listing that is answered is short
-pub list-most : (file : List ℕ) (room n : ℕ) → list file room ≡ listed n → n ≤ 65520
-unfolding list PassFile.firstNo
-list-most file room n e =
-    answer-most (PassFile.firstNo file room) (listing file) n (λ z. listing-of-run file (linked-if-zero (judge file) room z) .most) e
+-- what is told of a file that is listed
+pub record ListedFile (most : ℕ) (file : List ℕ) (output n : ℕ) : Type 0 where
+  pub linked : judge most file output ≡ Linked
+  pub whole : n ≡ length (listing file)
+
+pub list-listed : (most : ℕ) (file : List ℕ) (output n : ℕ) → list most file output ≡ listed n → ListedFile most file output n
+unfolding list
+list-listed most file output n e =
+    let l = answer-listed (number (judge most file output)) (listing file) n e in
+    record { linked = number-linked (judge most file output) (l .0); whole = l .1 }
+
+-- a listing that is answered has room in 48 bytes a record of the file, and in the output
+pub record ShortListing (file : List ℕ) (output n : ℕ) : Type 0 where
+  pub a-record : n ≤ 48 * recordCount file
+  pub within : n ≤ output
+  -- which are 65,520 bytes at most where the file has up to 1,365 records
+  pub a-short-file : recordCount file ≤ mostShort → n ≤ 65520
+
+pub list-short : (most : ℕ) (file : List ℕ) (output n : ℕ) → most ≤ mostRecords → list most file output ≡ listed n → ShortListing file output n
+list-short most file output n m e =
+    let l = list-listed most file output n e in
+    let r = listing-of-run most m file output (l .linked) in
+    record {
+      a-record = omega (arith, r .short, l .whole);
+      within = omega (arith, listing-fits most m file output (l .linked), l .whole);
+      a-short-file = λ h. omega (arith, r .short, l .whole);
+    }

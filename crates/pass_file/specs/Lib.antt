@@ -3,3 +3,4 @@ pub mod Judged
 pub mod Laws
 pub mod Rows
 pub mod Unlinked
+pub mod Limits

@@ -3,7 +3,7 @@ use Prim.Native.Nat.{ℕ, zero, suc}
 use Prim.Native.Char.{code}
 use mathlib.Core.Bool.{cond}
 use mathlib.Core.List.{List, [], _∷_, _++_, map}
-use lib.Dec.{eqb, leb}
+use lib.Dec.{eqb}
 use lib.ListN.{length, drop}
 use lib.Ieee.{binary64, ofBits, toBits}
 use Rattle.bandwidth.specs.Bandwidth.{rate, bps}
@@ -83,14 +83,6 @@ unfoldable pub listing : List ℕ → List ℕ
 listing file = lines first (calls file [] (chain file))
 
 -- ---- the answer
--- the least output that question 13 asks for
-abbrev pub leastOutput : ℕ
-leastOutput = 65536
-
--- questions 10 to 12, then 13: the number of the first no, or 0
-unfoldable pub firstNo : List ℕ → ℕ → ℕ
-firstNo file room = cond (eqb (number (judge file)) 0) (cond (leb leastOutput room) 0 13) (number (judge file))
-
 -- a listing of so many bytes, or the number of the first no
 pub data Answer : Type 0 where
   listed : ℕ → Answer
@@ -117,13 +109,14 @@ abbrev pub answerUnless : ℕ → List ℕ → Answer
 answerUnless zero text = listed (length text)
 answerUnless (suc n) text = turnedDown (suc n)
 
-unfoldable pub list : List ℕ → ℕ → Answer
-list file room = answerUnless (firstNo file room) (listing file)
+-- to a file that may have `most` records, with an output of so many bytes: questions 10 to 13, then the listing
+unfoldable pub list : ℕ → List ℕ → ℕ → Answer
+list most file output = answerUnless (number (judge most file output)) (listing file)
 
 -- the output after: the listing, and after it the bytes that were there; a refusal leaves all as it was
 abbrev pub outputUnless : ℕ → List ℕ → List ℕ → List ℕ
 outputUnless zero text out = text ++ drop (length text) out
 outputUnless (suc n) text out = out
 
-unfoldable pub output : List ℕ → List ℕ → List ℕ
-output file out = outputUnless (firstNo file (length out)) (listing file) out
+unfoldable pub output : ℕ → List ℕ → List ℕ → List ℕ
+output most file out = outputUnless (number (judge most file (length out))) (listing file) out

@@ -22,11 +22,11 @@ use Rattle.link.specs.Link.{Outcome, acceptedWith, firstNoInOrder, outcomeUnles
 use Rattle.link.specs.Laws.{report-sorted, timeout-from-7}
 use Rattle.link_runs.specs.Statement.{call, report, timeout}
 use Rattle.link_runs.specs.InRange.{reached-in-range}
-use Rattle.pass_records.specs.PassRecords.{recordAt}
+use Rattle.pass_records.specs.PassRecords.{mostRecords, recordAt}
 use Rattle.pass_records.specs.Rows.{example, example-linked, example-chain}
 use Rattle.listing_line.specs.ListingLine.{line}
 use Rattle.listing_line.specs.Rows.{bytes, record-1, record-3}
-use Rattle.pass_file.specs.PassFile.{Numbered, calls, first, firstNo, leastOutput, lines, list, listed, listing, shown}
+use Rattle.pass_file.specs.PassFile.{Numbered, calls, first, lines, list, listed, listing, shown}
 use Rattle.pass_file.specs.Laws.{fileCalls, first-opened}
 
 -- record 3's report: no packets, a probe of 2,000,000
@@ -86,6 +86,6 @@ example-listing =
     ∙ two-lines first one three timeout-taken report-taken
     ∙ rw (first-line, second-line, record-1, record-3)
 
-pub example-answer : list example leastOutput ≡ listed 68
-unfolding list firstNo bytes
+pub example-answer : list mostRecords example 65536 ≡ listed 68
+unfolding list bytes
 example-answer = rw (example-linked, example-listing)

@@ -4,7 +4,7 @@ use mathlib.Core.Path.{_≡_, refl}
 use mathlib.Core.List.{List, [], _∷_, List·Memᴰ·head, List·Memᴰ·tail}
 use Rattle.pass_records.specs.PassRecords.{chain}
 use Rattle.pass_records.specs.Agree.{Agree, AllSame, agree-chain, agree-judge}
-use Rattle.pass_file.specs.PassFile.{calls, firstNo, list, listing, output}
+use Rattle.pass_file.specs.PassFile.{calls, list, listing, output}
 
 module _ (f g : List ℕ) where
   calls-same : (waiting : List (List ℕ)) (ks : List ℕ) → AllSame f g ks → calls f waiting ks ≡ calls g waiting ks
@@ -19,10 +19,10 @@ module _ (f g : List ℕ) where
     unfolding listing
     agree-listing = rw (← agree-chain f g a, calls-same [] (chain f) (a .records))
 
-    pub agree-list : (room : ℕ) → list f room ≡ list g room
-    unfolding list firstNo
-    agree-list room = rw (agree-judge f g a, agree-listing)
+    pub agree-list : (most room : ℕ) → list most f room ≡ list most g room
+    unfolding list
+    agree-list most room = rw (agree-judge f g a, agree-listing)
 
-    pub agree-output : (out : List ℕ) → output f out ≡ output g out
-    unfolding output firstNo
-    agree-output out = rw (agree-judge f g a, agree-listing)
+    pub agree-output : (most : ℕ) (out : List ℕ) → output most f out ≡ output most g out
+    unfolding output
+    agree-output most out = rw (agree-judge f g a, agree-listing)

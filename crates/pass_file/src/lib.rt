@@ -3,7 +3,7 @@ ghost use mathlib.Core.Path.{_≡_};
 ghost use Prim.Native.Nat.{_≤_};
 ghost use lib.ListN.{length, take};
 ghost use Rattle.pass_records.specs.PassRecords as Records;
-ghost use Rattle.pass_records.specs.declared.Judged.the-variants.{Linked};
+ghost use Rattle.pass_records.specs.Laws.{OnChain};
 ghost use Rattle.listing_line.specs.ListingLine.{putLine, placeAfter, Wrote};
 ghost use Rattle.waiting_packets.specs.WaitingPackets.{KeptLengths, mostWaiting};
 ghost use Rattle.pass_file.specs.PassFile as PassFile;
@@ -16,9 +16,6 @@ use bandwidth::OptionBitrate;
 use control::DelayController;
 use link_state::Link;
 use pass_records::Judged;
-
-// The least output that a file's listing is written to.
-pub const LEAST_OUTPUT: usize = 65_536;
 
 // A listing of so many bytes, or the first question that the file fails.
 pub enum Listed {
@@ -176,7 +173,7 @@ fn list_chain(
     receives: &mut [u64],
     link: Link,
 ) -> usize
-    requires { ⌜ (Records.judge (now file) ≡ Linked) × (PassFile.leastOutput ≤ length (now out)) × (link ≡ PassFile.first) ⌝ }
+    requires { ⌜ OnChain (now file) (Records.recordCount (now file)) 1 × (length (PassFile.listing (now file)) ≤ length (now out)) × (link ≡ PassFile.first) ⌝ }
     requires { ⌜ KeptLengths (now sequences) (now sizes) (now sends) (now remotes) (now receives) ⌝ }
     ensures { λ r. ⌜ Wrote (now (out .entry)) 0 (PassFile.listing (now (file .entry))) (now (out .exit)) r ⌝ }
 {
@@ -250,7 +247,7 @@ fn list_chain(
 
 // The listing of a linked file.
 fn list_linked(file: &[u8], out: &mut [u8]) -> usize
-    requires { ⌜ (Records.judge (now file) ≡ Linked) × (PassFile.leastOutput ≤ length (now out)) ⌝ }
+    requires { ⌜ OnChain (now file) (Records.recordCount (now file)) 1 × (length (PassFile.listing (now file)) ≤ length (now out)) ⌝ }
     ensures { λ r. ⌜ Wrote (now (out .entry)) 0 (PassFile.listing (now (file .entry))) (now (out .exit)) r ⌝ }
 {
     let mut sequences = [0u64; 1025];
@@ -270,20 +267,16 @@ fn list_linked(file: &[u8], out: &mut [u8]) -> usize
     )
 }
 
-// Questions 10 to 13, then the listing at the start of the output.
-pub fn list(file: &[u8], out: &mut [u8]) -> Listed
-    ensures { λ r. ⌜ PassFile.answer r ≡ PassFile.list (now (file .entry)) (length (now (out .entry))) ⌝ }
-    ensures { λ _. ⌜ now (out .exit) ≡ PassFile.output (now (file .entry)) (now (out .entry)) ⌝ }
+// Questions 10 to 13 of a file that may have `most` records, then the listing at the start of the output.
+pub fn list(file: &[u8], out: &mut [u8], most: u16) -> Listed
+    ensures { λ r. ⌜ PassFile.answer r ≡ PassFile.list most (now (file .entry)) (length (now (out .entry))) ⌝ }
+    ensures { λ _. ⌜ now (out .exit) ≡ PassFile.output most (now (file .entry)) (now (out .entry)) ⌝ }
 {
-    match pass_records::judge(file) {
+    match pass_records::judge(file, most, out.len()) {
+        Judged::Linked => Listed::Listing(list_linked(file, out)),
         Judged::BadLength => Listed::BadLength,
         Judged::BadKind => Listed::BadKind,
         Judged::BadNext => Listed::BadNext,
-        Judged::Linked => {
-            if out.len() < LEAST_OUTPUT {
-                return Listed::ShortOutput;
-            }
-            Listed::Listing(list_linked(file, out))
-        }
+        Judged::ShortOutput => Listed::ShortOutput,
     }
 }

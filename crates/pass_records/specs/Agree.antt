@@ -5,7 +5,7 @@ use mathlib.Core.List.{List, [], _∷_, List·Memᴰ, List·Memᴰ·head, List·
 use lib.ListN.{length}
 use Rattle.pass_records.specs.declared.Following.{Following}
 use Rattle.pass_records.specs.declared.Following.the-variants.{Next, End, BadKind, BadNext}
-use Rattle.pass_records.specs.PassRecords.{recordCount, recordAt, successor, onward, steps, chainFrom, chain, judgeAlong, judge}
+use Rattle.pass_records.specs.PassRecords.{recordCount, recordAt, successor, onward, steps, chainFrom, chain, judgeAlong, lengthIn, judge}
 
 module _ (f g : List ℕ) where
   -- the same records at these numbers
@@ -41,7 +41,6 @@ module _ (f g : List ℕ) where
   -- ---- the file
   module _ (a : Agree) where
     count-same : recordCount f ≡ recordCount g
-    unfolding recordCount
     count-same = rw (a .lengths)
 
     chain-same : chain f ≡ chainFrom g (recordCount f) 1
@@ -51,6 +50,6 @@ module _ (f g : List ℕ) where
     pub agree-chain : chain f ≡ chain g
     agree-chain = rw (← count-same) chain-same
 
-    pub agree-judge : judge f ≡ judge g
+    pub agree-judge : (most output : ℕ) → judge most f output ≡ judge most g output
     unfolding judge
-    agree-judge = rw (← count-same, ← chain-same, judge-along-same (recordCount f) (chain f) (a .records))
+    agree-judge most output = rw (← a .lengths, ← chain-same, judge-along-same (recordCount f) (chain f) (a .records))

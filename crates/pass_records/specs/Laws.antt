@@ -1,23 +1,29 @@
 -- Laws of records and their chain: what the questions say, how a chain unfolds record by record, and what a linked file has.
 use mathlib.Core.Path.{_≡_, refl, sym, ap, subst, _∙_}
 use Prim.Native.Nat.{ℕ, zero, suc, _+_, _*_, _-_, _/_, _%_, _≤_, _<_}
-use mathlib.Core.Bool.{Bool, true, false, _&&_, cond}
+use mathlib.Core.Bool.{Bool, true, false, _&&_, cond, and-false}
 use mathlib.Core.List.{List, [], _∷_, List·Memᴰ, List·Memᴰ·not-nil, List·Memᴰ·cases-cons}
 use mathlib.Core.Logic.{⊎-elim}
 use native.Mathlib.Omega.{arith}
 use lib.Dec.{eqb, ltb, leb}
 use lib.ListN.{length}
-use borrow.Author.Tests.{ne-eqb, ltb-true, leb-true, eqb-true, eqb-false}
+use lib.Seq.{length-take-le, take-all}
+use borrow.Author.Tests.{ne-eqb, le-leb, lt-leb, ltb-true, leb-true, leb-false, eqb-true, eqb-false}
 use Rattle.bool_laws.specs.Bools.{both, cases}
 use Rattle.pass_records.specs.declared.Following.{Following}
 use Rattle.pass_records.specs.declared.Following.the-variants.{Next, End, BadKind, BadNext}
+use Rattle.pass_records.specs.declared.Judged.{Judged}
 use Rattle.pass_records.specs.declared.Judged.the-variants as J
 use Rattle.pass_records.specs.PassRecords.{
-  mostRecords,
   recordBytes,
+  mostRecords,
+  mostShort,
+  shortFileOutput,
+  outputPerRecord,
   packet,
   report,
   timeout,
+  wholeRecords,
   recordCount,
   kind,
   flag,
@@ -31,7 +37,12 @@ use Rattle.pass_records.specs.PassRecords.{
   chain,
   judgeOne,
   judgeAlong,
+  lengthIn,
+  leastOutput,
+  room,
+  judgeOutput,
   judge,
+  beginning,
 }
 
 -- ---- a record
@@ -54,6 +65,13 @@ Told bytes last k End = Formed bytes × (next bytes ≡ 0)
 Told bytes last k BadKind = wellFormed bytes ≡ false
 Told bytes last k BadNext = Formed bytes
 
+-- ---- a file
+-- what question 10 asks of its length
+pub record Counted (most bytes : ℕ) : Type 0 where
+  pub whole : bytes ≡ wholeRecords bytes * recordBytes
+  pub some : 0 < wholeRecords bytes
+  pub few : wholeRecords bytes ≤ most
+
 -- ---- a chain
 -- numbers that rise, all above `low` and none past `last`
 abbrev pub Rising : ℕ → ℕ → List ℕ → Type 0
@@ -71,26 +89,66 @@ pub record Onward (file : List ℕ) (last k n : ℕ) : Type 0 where
   pub above : (n ≡ 0 → ⊥) → k < n
   pub on-chain : (n ≡ 0 → ⊥) → OnChain file last n
 
-pub record LinkedFile (file : List ℕ) : Type 0 where
-  pub most : recordCount file ≤ mostRecords
-  pub bytes : length file ≡ recordCount file * recordBytes
+-- what questions 10 to 13 ask of a file and an output of so many bytes
+pub record LinkedFile (most : ℕ) (file : List ℕ) (output : ℕ) : Type 0 where
+  pub counted : Counted most (length file)
   pub first : OnChain file (recordCount file) 1
   pub rising : Rising 0 (recordCount file) (chain file)
   pub few : length (chain file) ≤ recordCount file
   pub formed : (k : ℕ) → List·Memᴰ k (chain file) → Formed (recordAt file k)
+  pub enough : leastOutput (recordCount file) ≤ output
 
--- ---- questions 10, 11 and 12
-pub counted : (file : List ℕ) → (recordCount file ≤ mostRecords) × (0 < recordCount file → length file ≡ recordCount file * recordBytes)
-unfolding recordCount
-counted file =
-    cases
-    (λ n. (n ≤ mostRecords) × (0 < n → length file ≡ n * recordBytes))
-    (eqb (length file % recordBytes) 0 && leb (length file / recordBytes) mostRecords)
-    (λ e.
-    let q = both (eqb (length file % recordBytes) 0) (leb (length file / recordBytes) mostRecords) e in
-    let r = eqb-true (length file % recordBytes) 0 (q .0) in
-    (leb-true _ _ (q .1), λ h. omega arith))
-    (λ e. (omega arith, λ h. absurd (omega arith)))
+-- ---- questions 10 to 13
+pub length-counted : (most bytes : ℕ) → lengthIn most bytes ≡ true → Counted most bytes
+unfolding lengthIn
+length-counted most bytes h =
+    let q = both (eqb (bytes % recordBytes) 0 && ltb 0 (wholeRecords bytes)) (leb (wholeRecords bytes) most) h in
+    let p = both (eqb (bytes % recordBytes) 0) (ltb 0 (wholeRecords bytes)) (q .0) in
+    let e = eqb-true (bytes % recordBytes) 0 (p .0) in
+    record { whole = omega arith; some = ltb-true _ _ (p .1); few = leb-true _ _ (q .1) }
+
+-- a longer file is refused, whatever else it is
+pub too-long : (most bytes : ℕ) → most < wholeRecords bytes → lengthIn most bytes ≡ false
+unfolding lengthIn
+too-long most bytes h = rw (lt-leb (wholeRecords bytes) most h, and-false)
+
+-- up to the smaller of two limits both ask the same
+pub either-limit : (small large bytes : ℕ) → wholeRecords bytes ≤ small → small ≤ large → lengthIn large bytes ≡ lengthIn small bytes
+unfolding lengthIn
+either-limit small large bytes h i = rw (le-leb (wholeRecords bytes) small h, le-leb (wholeRecords bytes) large (omega arith))
+
+-- the output of a short file, and of a longer one
+pub least-short : (records : ℕ) → records ≤ mostShort → leastOutput records ≡ shortFileOutput
+unfolding leastOutput
+least-short records h = rw (le-leb records mostShort h)
+
+pub least-long : (records : ℕ) → mostShort < records → leastOutput records ≡ records * outputPerRecord
+unfolding leastOutput
+least-long records h = rw (lt-leb records mostShort h)
+
+-- what holds of either holds of the least output
+least-by : (P : ℕ → Type 0) (records : ℕ) → (records ≤ mostShort → P shortFileOutput) → (mostShort < records → P (records * outputPerRecord)) → P (leastOutput records)
+unfolding leastOutput
+least-by P records short long = cases P (leb records mostShort) (λ e. short (leb-true records mostShort e)) (λ e. long (leb-false records mostShort e))
+
+-- it has room for so many bytes a record, and no file wants more than the longest
+pub least-enough : (records : ℕ) → records * outputPerRecord ≤ leastOutput records
+least-enough records = least-by (λ n. records * outputPerRecord ≤ n) records (λ h. omega arith) (λ h. omega arith)
+
+pub least-some : (records : ℕ) → 0 < leastOutput records
+least-some records = least-by (λ n. 0 < n) records (λ h. omega arith) (λ h. omega arith)
+
+pub least-most : (records : ℕ) → records ≤ mostRecords → leastOutput records ≤ mostRecords * outputPerRecord
+least-most records m = least-by (λ n. n ≤ mostRecords * outputPerRecord) records (λ h. omega arith) (λ h. omega arith)
+
+-- how much output a length wants, where question 10 takes it
+pub room-taken : (most bytes : ℕ) → lengthIn most bytes ≡ true → room most bytes ≡ leastOutput (wholeRecords bytes)
+unfolding room
+room-taken most bytes h = rw h
+
+pub room-refused : (most bytes : ℕ) → lengthIn most bytes ≡ false → room most bytes ≡ 0
+unfolding room
+room-refused most bytes h = rw h
 
 module _ (bytes : List ℕ) where
   pub well-formed : wellFormed bytes ≡ true → Formed bytes
@@ -223,22 +281,82 @@ module _ (file : List ℕ) (last : ℕ) where
       go BadKind p e l = absurd (let z : _≡_ {A = ℕ} 0 1 = cc in omega arith)
       go BadNext p e l = absurd (let z : _≡_ {A = ℕ} 0 1 = cc in omega arith)
 
-pub linked-file : (file : List ℕ) → judge file ≡ J.Linked → LinkedFile file
+output-linked : (j : Judged) (enough : Bool) → judgeOutput j enough ≡ J.Linked → (j ≡ J.Linked) × (enough ≡ true)
+output-linked J.Linked true e = (refl, refl)
+output-linked J.Linked false e = absurd (let z : _≡_ {A = ℕ} 0 1 = cc in omega arith)
+output-linked J.BadLength enough e = absurd (let z : _≡_ {A = ℕ} 0 1 = cc in omega arith)
+output-linked J.BadKind enough e = absurd (let z : _≡_ {A = ℕ} 0 1 = cc in omega arith)
+output-linked J.BadNext enough e = absurd (let z : _≡_ {A = ℕ} 0 1 = cc in omega arith)
+output-linked J.ShortOutput enough e = absurd (let z : _≡_ {A = ℕ} 0 1 = cc in omega arith)
+
+module _ (most : ℕ) (file : List ℕ) (output : ℕ) where
+  linked-counted : Counted most (length file) → judgeOutput (judgeAlong file (recordCount file) (chain file)) (leb (leastOutput (recordCount file)) output) ≡ J.Linked
+      → LinkedFile most file output
+  linked-counted c h =
+      let o = output-linked (judgeAlong file (recordCount file) (chain file)) (leb (leastOutput (recordCount file)) output) h in
+      let rising = chain-rising file (recordCount file) 1 0 (omega arith) (c .some) in
+      record {
+        counted = c;
+        first = record { within = c .some; linked = o .0 };
+        rising = rising;
+        few = omega (arith, rising-length (chain file) 0 (recordCount file) (omega arith) rising);
+        formed = linked-formed file (recordCount file) (chain file) (o .0);
+        enough = leb-true _ _ (o .1);
+      }
+
+  pub linked-file : judge most file output ≡ J.Linked → LinkedFile most file output
+  unfolding judge
+  linked-file =
+      cases
+      (λ j. j ≡ J.Linked → LinkedFile most file output)
+      (lengthIn most (length file))
+      (λ e h. linked-counted (length-counted most (length file) e) h)
+      (λ e h. absurd (let z : _≡_ {A = ℕ} 0 1 = cc in omega arith))
+
+  -- by question 10 first
+  pub judge-counted : lengthIn most (length file) ≡ true
+      → judge most file output ≡ judgeOutput (judgeAlong file (recordCount file) (chain file)) (leb (leastOutput (recordCount file)) output)
+  unfolding judge
+  judge-counted h = rw h
+
+  pub judge-refused : lengthIn most (length file) ≡ false → judge most file output ≡ J.BadLength
+  unfolding judge
+  judge-refused h = rw h
+
+-- ---- limits
+-- a file of up to the smaller of two limits is judged alike under both
+pub judge-either : (small large : ℕ) (file : List ℕ) (output : ℕ) → recordCount file ≤ small → small ≤ large → judge large file output ≡ judge small file output
 unfolding judge
-linked-file file =
-    cases
-    (λ j. j ≡ J.Linked → LinkedFile file)
-    (eqb (recordCount file) 0)
-    (λ e h. absurd (let z : _≡_ {A = ℕ} 0 1 = cc in omega arith))
-    (λ e h.
-    let n = eqb-false (recordCount file) 0 e in
-    let some : 0 < recordCount file = omega arith in
-    let rising = chain-rising file (recordCount file) 1 0 (omega arith) some in
-    record {
-      most = counted file .0;
-      bytes = counted file .1 some;
-      first = record { within = some; linked = h };
-      rising = rising;
-      few = omega (arith, rising-length (chain file) 0 (recordCount file) (omega arith) rising);
-      formed = linked-formed file (recordCount file) (chain file) h;
-    })
+judge-either small large file output h i = rw (either-limit small large (length file) h i)
+
+-- and so it is with two outputs that are enough for it
+pub judge-enough : (most : ℕ) (file : List ℕ) (a b : ℕ) → (recordCount file ≤ most → (leastOutput (recordCount file) ≤ a) × (leastOutput (recordCount file) ≤ b))
+    → judge most file a ≡ judge most file b
+judge-enough most file a b h = go (lengthIn most (length file)) refl
+  where
+    go : (t : Bool) → lengthIn most (length file) ≡ t → judge most file a ≡ judge most file b
+    go true e =
+        let i = h (length-counted most (length file) e .few) in
+        rw (judge-counted most file a e, judge-counted most file b e, le-leb _ _ (i .0), le-leb _ _ (i .1))
+    go false e = rw (judge-refused most file a e, judge-refused most file b e)
+
+pub judge-too-long : (most : ℕ) (file : List ℕ) (output : ℕ) → most < recordCount file → judge most file output ≡ J.BadLength
+judge-too-long most file output h = judge-refused most file output (too-long most (length file) h)
+
+-- what holds of every file beside itself, and of two files that question 10 turns down, holds of a file's beginning beside the file
+pub beginning-by :
+    (R : List ℕ → List ℕ → Type 0) (most : ℕ) (file : List ℕ) → ((f : List ℕ) → R f f) →
+    ((f g : List ℕ) → ((output : ℕ) → judge most f output ≡ J.BadLength) → ((output : ℕ) → judge most g output ≡ J.BadLength) → R f g) →
+    R (beginning most file) file
+beginning-by R most file same refused = go (leb (recordCount file) most) refl
+  where
+    go : (t : Bool) → leb (recordCount file) most ≡ t → R (beginning most file) file
+    go true e =
+        let few = leb-true (recordCount file) most e in
+        subst (λ f. R f file) (sym (take-all (suc most * recordBytes) file (omega arith))) (same file)
+    go false e =
+        let many = leb-false (recordCount file) most e in
+        let n = length-take-le (suc most * recordBytes) file (omega arith) in
+        refused (beginning most file) file
+        (λ output. judge-too-long most (beginning most file) output (omega (arith, n)))
+        (λ output. judge-too-long most file output (omega arith))

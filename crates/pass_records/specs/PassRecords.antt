@@ -1,4 +1,4 @@
--- The records of a pass file, 48 bytes each and numbered from 1, and the chain that links them. What lies past a record's end counts as 0.
+-- The records of a pass file, 48 bytes each and numbered from 1, the chain that links them, and questions 10 to 13. What lies past a record's end counts as 0.
 use Prim.Native.Nat.{ℕ, zero, suc, _+_, _*_, _-_, _/_, _%_}
 use mathlib.Core.Bool.{Bool, _&&_, cond}
 use mathlib.Core.List.{List, [], _∷_}
@@ -13,9 +13,9 @@ use Rattle.pass_records.specs.declared.Judged.the-variants as J
 abbrev pub recordBytes : ℕ
 recordBytes = 48
 
--- the most records that a file may have
+-- the most records that the library takes; a program may take fewer
 abbrev pub mostRecords : ℕ
-mostRecords = 1365
+mostRecords = 65535
 
 -- the kinds
 abbrev pub packet : ℕ
@@ -27,10 +27,12 @@ report = 2
 abbrev pub timeout : ℕ
 timeout = 3
 
--- question 10: how many records a file has, and 0 where its length is not that of 1 to the most records
-unfoldable pub recordCount : List ℕ → ℕ
-recordCount file =
-    cond (eqb (length file % recordBytes) 0 && leb (length file / recordBytes) mostRecords) (length file / recordBytes) 0
+-- how many whole records so many bytes hold
+abbrev pub wholeRecords : ℕ → ℕ
+wholeRecords bytes = bytes / recordBytes
+
+abbrev pub recordCount : List ℕ → ℕ
+recordCount file = wholeRecords (length file)
 
 -- the bytes of record k, or none where the file has no record k
 unfoldable pub recordAt : List ℕ → ℕ → List ℕ
@@ -108,9 +110,46 @@ unfoldable pub judgeAlong : List ℕ → ℕ → List ℕ → Judged
 judgeAlong file last [] = J.Linked
 judgeAlong file last (k ∷ ks) = judgeOne (successor (recordAt file k) last k) (judgeAlong file last ks)
 
--- question 10, then 11 and 12 along the chain
-unfoldable pub judge : List ℕ → Judged
-judge file = cond (eqb (recordCount file) 0) J.BadLength (judgeAlong file (recordCount file) (chain file))
+-- ---- questions 10 and 13
+-- question 10: so many bytes are 48 times 1 to `most`
+unfoldable pub lengthIn : ℕ → ℕ → Bool
+lengthIn most bytes = (eqb (bytes % recordBytes) 0 && ltb 0 (wholeRecords bytes)) && leb (wholeRecords bytes) most
+
+-- question 13: the least output for a file of so many records, linked or not
+abbrev pub mostShort : ℕ
+mostShort = 1365
+
+abbrev pub shortFileOutput : ℕ
+shortFileOutput = 65536
+
+abbrev pub outputPerRecord : ℕ
+outputPerRecord = 48
+
+unfoldable pub leastOutput : ℕ → ℕ
+leastOutput records = cond (leb records mostShort) shortFileOutput (records * outputPerRecord)
+
+-- the least output for a file of so many bytes, and 0 where question 10 turns it down
+unfoldable pub room : ℕ → ℕ → ℕ
+room most bytes = cond (lengthIn most bytes) (leastOutput (wholeRecords bytes)) 0
+
+-- ---- all four, in their order
+abbrev pub judgeOutput : Judged → Bool → Judged
+judgeOutput J.Linked enough = cond enough J.Linked J.ShortOutput
+judgeOutput J.BadLength enough = J.BadLength
+judgeOutput J.BadKind enough = J.BadKind
+judgeOutput J.BadNext enough = J.BadNext
+judgeOutput J.ShortOutput enough = J.ShortOutput
+
+-- of a file that may have `most` records, and an output of so many bytes
+unfoldable pub judge : ℕ → List ℕ → ℕ → Judged
+judge most file output =
+    cond (lengthIn most (length file))
+    (judgeOutput (judgeAlong file (recordCount file) (chain file)) (leb (leastOutput (recordCount file)) output))
+    J.BadLength
+
+-- the beginning of a file, one record more than `most`: as much as a program has to read to judge it
+abbrev pub beginning : ℕ → List ℕ → List ℕ
+beginning most file = take (suc most * recordBytes) file
 
 -- the number of the question that a file fails
 abbrev pub number : Judged → ℕ
@@ -118,3 +157,4 @@ number J.Linked = 0
 number J.BadLength = 10
 number J.BadKind = 11
 number J.BadNext = 12
+number J.ShortOutput = 13

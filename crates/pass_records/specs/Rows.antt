@@ -1,8 +1,8 @@
--- The example of document 01, three records of which the second is skipped, and the largest number of records, computed from the definitions.
-use Prim.Native.Nat.{ℕ, zero, suc, _*_}
+-- The example of document 01, three records of which the second is skipped, and the limits of questions 10 and 13, computed from the definitions.
+use Prim.Native.Nat.{ℕ, zero, suc, _+_, _*_}
 use mathlib.Core.Path.{_≡_, refl}
+use mathlib.Core.Bool.{true, false}
 use mathlib.Core.List.{List, [], _∷_, _++_}
-use lib.ListN.{length}
 use Rattle.le_bytes.specs.LeBytes.{le}
 use Rattle.pass_records.specs.declared.Judged.the-variants as J
 use Rattle.pass_records.specs.PassRecords.{
@@ -18,6 +18,9 @@ use Rattle.pass_records.specs.PassRecords.{
   chainFrom,
   chain,
   judgeAlong,
+  lengthIn,
+  leastOutput,
+  room,
   judge,
 }
 
@@ -37,15 +40,14 @@ abbrev pub example : List ℕ
 example = first ++ zeros 48 ++ third
 
 pub three-records : recordCount example ≡ 3
-unfolding recordCount
 three-records = refl
 
-pub example-linked : judge example ≡ J.Linked
-unfolding judge judgeAlong chainFrom steps successor recordAt wellFormed recordCount le
+pub example-linked : judge mostRecords example 65536 ≡ J.Linked
+unfolding judge lengthIn leastOutput judgeAlong chainFrom steps successor recordAt wellFormed le
 example-linked = refl
 
 pub example-chain : chain example ≡ 1 ∷ 3 ∷ []
-unfolding chainFrom steps successor recordAt wellFormed recordCount le
+unfolding chainFrom steps successor recordAt wellFormed le
 example-chain = refl
 
 pub first-now : receive (recordAt example 1) ≡ 1000000000
@@ -60,10 +62,13 @@ pub third-probe : probeBits (recordAt example 3) ≡ 0x413e_8480_0000_0000
 unfolding recordAt le
 third-probe = refl
 
-pub most-accepted : (file : List ℕ) → length file ≡ mostRecords * recordBytes → recordCount file ≡ mostRecords
-unfolding recordCount
-most-accepted file e = rw e
+pub lengths-taken : lengthIn mostRecords 0 ∷ lengthIn mostRecords 47 ∷ lengthIn mostRecords 48 ∷ lengthIn mostRecords 49
+    ∷ lengthIn mostRecords (65535 * 48) ∷ lengthIn mostRecords (65535 * 48 + 1) ∷ lengthIn mostRecords (65536 * 48) ∷ []
+    ≡ false ∷ false ∷ true ∷ false ∷ true ∷ false ∷ false ∷ []
+unfolding lengthIn
+lengths-taken = refl
 
-pub one-more-refused : (file : List ℕ) → length file ≡ suc mostRecords * recordBytes → judge file ≡ J.BadLength
-unfolding judge recordCount
-one-more-refused file e = rw e
+pub rooms : room mostRecords 47 ∷ room mostRecords 48 ∷ room mostRecords (1365 * 48) ∷ room mostRecords (1366 * 48) ∷ room mostRecords (65535 * 48) ∷ room mostRecords (65536 * 48) ∷ []
+    ≡ 0 ∷ 65536 ∷ 65536 ∷ 65568 ∷ 3145680 ∷ 0 ∷ []
+unfolding room lengthIn leastOutput
+rooms = refl

@@ -1,12 +1,19 @@
-// The records of a pass file, and the chain that links them. A record has 48 bytes, and records are numbered from 1.
+// The records of a pass file, the chain that links them, and questions 10 to 13. A record has 48 bytes, and records are numbered from 1.
 ghost use mathlib.Core.Path.{_≡_};
-ghost use Prim.Native.Nat.{_<_};
+ghost use Prim.Native.Nat.{_<_, _≤_};
 ghost use Rattle.pass_records.specs.PassRecords as Records;
 
 pub const RECORD_BYTES: usize = 48;
 
 // The most records that a file may have.
-pub const MOST_RECORDS: usize = 1365;
+pub const MOST_RECORDS: u16 = 65_535;
+
+// The output that a file of up to so many records wants, and that a longer one wants for each record.
+const MOST_SHORT: usize = 1_365;
+
+const SHORT_FILE_OUTPUT: usize = 65_536;
+
+const OUTPUT_PER_RECORD: usize = 48;
 
 // The kinds of records.
 pub const PACKET: u8 = 1;
@@ -23,26 +30,42 @@ enum Following {
     BadNext,
 }
 
-// Whether a file's chain is linked, or the first question that the file fails.
+// Whether a file's chain is linked and its listing has room, or the first question that the file fails.
 pub enum Judged {
     Linked,
     BadLength,
     BadKind,
     BadNext,
+    ShortOutput,
 }
 
-// Question 10: how many records a file has, and 0 where its length is not that of 1 to the most records.
-fn record_count(file: &[u8]) -> usize
-    ensures { λ r. ⌜ r ≡ Records.recordCount (now (file .entry)) ⌝ }
+// Question 10: whether a file of so many bytes has 1 to `most` records.
+fn length_in(bytes: usize, most: u16) -> bool
+    ensures { λ r. ⌜ r ≡ Records.lengthIn most bytes ⌝ }
 {
-    let bytes = file.len();
-    if bytes % RECORD_BYTES != 0 {
+    let records = bytes / RECORD_BYTES;
+    (bytes % RECORD_BYTES == 0) & (0 < records) & (records <= most as usize)
+}
+
+// Question 13: the least output for a file of so many records.
+fn least_output(records: usize) -> usize
+    requires { ⌜ records ≤ Records.mostRecords ⌝ }
+    ensures { λ r. ⌜ r ≡ Records.leastOutput records ⌝ }
+{
+    if records <= MOST_SHORT {
+        return SHORT_FILE_OUTPUT;
+    }
+    records * OUTPUT_PER_RECORD
+}
+
+// How much output a file of so many bytes wants; 0 where question 10 turns it down.
+pub fn room(bytes: usize, most: u16) -> usize
+    ensures { λ r. ⌜ r ≡ Records.room most bytes ⌝ }
+{
+    if !length_in(bytes, most) {
         return 0;
     }
-    if MOST_RECORDS < bytes / RECORD_BYTES {
-        return 0;
-    }
-    bytes / RECORD_BYTES
+    least_output(bytes / RECORD_BYTES)
 }
 
 // The bytes of record k, or none where the file has no record k.
@@ -170,12 +193,32 @@ fn judge_chain(file: &[u8], last: usize) -> Judged
     }
 }
 
-pub fn judge(file: &[u8]) -> Judged
-    ensures { λ r. ⌜ r ≡ Records.judge (now (file .entry)) ⌝ }
+// Question 13 of a file that is judged by 10 to 12, with enough output or not.
+fn judge_output(judged: Judged, enough: bool) -> Judged
+    ensures { λ r. ⌜ r ≡ Records.judgeOutput judged enough ⌝ }
 {
-    let last = record_count(file);
-    if last == 0 {
+    match judged {
+        Judged::Linked => {
+            if enough {
+                return Judged::Linked;
+            }
+            Judged::ShortOutput
+        }
+        Judged::BadLength => Judged::BadLength,
+        Judged::BadKind => Judged::BadKind,
+        Judged::BadNext => Judged::BadNext,
+        Judged::ShortOutput => Judged::ShortOutput,
+    }
+}
+
+// Questions 10 to 13 of a file that may have `most` records, and an output of so many bytes.
+pub fn judge(file: &[u8], most: u16, output: usize) -> Judged
+    ensures { λ r. ⌜ r ≡ Records.judge most (now (file .entry)) output ⌝ }
+{
+    if !length_in(file.len(), most) {
         return Judged::BadLength;
     }
-    judge_chain(file, last)
+    let last = file.len() / RECORD_BYTES;
+    let judged = judge_chain(file, last);
+    judge_output(judged, least_output(last) <= output)
 }

@@ -1,1 +1,2 @@
 pub mod Passrun
+pub mod Laws

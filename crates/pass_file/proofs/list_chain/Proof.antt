@@ -13,10 +13,9 @@ use borrow.Author.Needs.{needs}
 use Rattle.link_runs.specs.Statement.{call}
 use Rattle.link_runs.specs.InRange.{good-in-range}
 use Rattle.pass_records.specs.PassRecords.{chainFrom, kind, next, recordCount, report}
-use Rattle.pass_records.specs.Laws.{OnChain, Onward, linked-file, onward-linked}
+use Rattle.pass_records.specs.Laws.{OnChain, Onward, onward-linked}
 use Rattle.pass_file.specs.Judged.{linkOf}
 use Rattle.pass_file.specs.PassFile.{callOf}
-use Rattle.pass_file.specs.Laws.{listing-of-run}
 use Rattle.pass_file.proofs.Chain.{Gives, Progress, joined, left-from, line-of, none-left, report-accepted, report-refused, reported, same-progress, starts, timed, timeout-accepted, timeout-refused, unrolled, written}
 use Rattle.pass_file.proofs.list_chain.Statement.{statement}
 use Rattle.pass_file.proofs.list_chain.Tie as tie
@@ -31,7 +30,7 @@ abbrev μ-loop : tie.MeasureT-loop
 loop-holds : tie.Need-loop-holds Inv-loop μ-loop
 loop-holds c =
     let p = c .before .before .before .before .before .before .before .before .before .pre in
-    (linked-file _ (p .0 .0) .first, starts (omega (arith, listing-of-run _ (p .0 .0) .most, p .0 .1)) (p .1) (p .0 .2))
+    (p .0 .0, starts (p .0 .1) (p .1) (p .0 .2))
 
 -- ---- the record
 module _ (c : tie.After-receive Inv-loop μ-loop) where

@@ -1,0 +1,34 @@
+-- The most records that a file may have is question 10's alone: under two limits a file within both has one answer and one output, and of a longer file the beginning, one
+-- record more than the limit, has the answer and the output of the whole.
+use Prim.Native.Nat.{ℕ, _≤_}
+use mathlib.Core.Path.{_≡_, refl}
+use mathlib.Core.List.{List}
+use lib.ListN.{length}
+use Rattle.pass_records.specs.PassRecords.{beginning, recordCount}
+use Rattle.pass_records.specs.Laws.{beginning-by, judge-either}
+use Rattle.pass_file.specs.PassFile.{list, output}
+
+-- the answer to a file and the output after it are the same under two limits
+pub record SameUnder (small large : ℕ) (file : List ℕ) : Type 0 where
+  pub answers : (room : ℕ) → list large file room ≡ list small file room
+  pub outputs : (out : List ℕ) → output large file out ≡ output small file out
+
+-- for every file of up to the smaller one
+pub same-under : (small large : ℕ) (file : List ℕ) → recordCount file ≤ small → small ≤ large → SameUnder small large file
+unfolding list output
+same-under small large file h i = record {
+  answers = λ room. rw (judge-either small large file room h i);
+  outputs = λ out. rw (judge-either small large file (length out) h i);
+}
+
+-- the answer to a file and the output after it are those of its beginning
+pub record SameFrom (most : ℕ) (file : List ℕ) : Type 0 where
+  pub answers : (room : ℕ) → list most (beginning most file) room ≡ list most file room
+  pub outputs : (out : List ℕ) → output most (beginning most file) out ≡ output most file out
+
+pub same-from : (most : ℕ) (file : List ℕ) → SameFrom most file
+unfolding list output
+same-from most file = record {
+  answers = λ room. beginning-by (λ f g. list most f room ≡ list most g room) most file (λ f. refl) (λ f g p q. rw (p room, q room));
+  outputs = λ out. beginning-by (λ f g. output most f out ≡ output most g out) most file (λ f. refl) (λ f g p q. rw (p (length out), q (length out)));
+}
