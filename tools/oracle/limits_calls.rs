@@ -1,8 +1,8 @@
 //! Cases of whole links and pass files at the limits of questions 2 to 13 and beside them, and with two questions that are answered with no: a fixed list.
 use crate::bwe::drive::Answers;
-use crate::bwe::pass::RECORD_BYTES;
+use crate::bwe::pass::{LEAST_OUTPUT, RECORD_BYTES};
 use crate::limits::{b, beside, floats, Cases, LAST, MS};
-use crate::pass_files::{write_case, LEAST_OUTPUT};
+use crate::pass_files::write_case;
 use std::io::{BufWriter, Write};
 
 /// The moment of a report.

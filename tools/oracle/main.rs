@@ -10,7 +10,7 @@
 //!     oracle lent SEED CALLS            calls on lent links with the Rust's answers and its state after each, to standard output
 //!     oracle lent_paths SEED CALLS      how often those calls take which path
 //!     oracle limits KIND                cases at each limit and beside it; KIND is modules, links or passes (pass files)
-//!     oracle list                       the listing of the pass file on standard input, or the number of the question that it fails
+//!     oracle list                       as passrun: the listing of the pass file on standard input, or the number of the question that it fails
 //!
 //! A case is 12 words of 8 bytes, little-endian: an operation, 5 inputs, 6 answers. drive.rs has the operations, make.rs the cases.
 #[macro_export]
@@ -107,7 +107,7 @@ fn main() {
         Some("lent") if words.len() == 4 => lent::make(words[2].parse().unwrap(), words[3].parse().unwrap()),
         Some("lent_paths") if words.len() == 4 => lent::paths(words[2].parse().unwrap(), words[3].parse().unwrap()),
         Some("list") if words.len() == 2 => pass_files::list(),
-        Some("passes") if words.len() == 5 => pass_files::make(words[2].parse().unwrap(), words[3].parse().unwrap(), words[4] == "long"),
+        Some("passes") if words.len() == 5 => pass_files::make(words[2].parse().unwrap(), words[3].parse().unwrap(), &words[4]),
         Some("limits") if words.len() == 3 => match words[2].as_str() {
             "modules" => limits::modules(),
             "links" => limits_calls::links(),
