@@ -174,7 +174,7 @@ fn packet(sequence: u64, size: u16, remote: u64) -> Record {
 }
 
 // The records in a chain, each with the next one's number.
-fn chained(mut records: Vec<Record>) -> Vec<u8> {
+pub fn chained(mut records: Vec<Record>) -> Vec<u8> {
     let last = records.len() - 1;
     for k in 0..last {
         records[k][..4].copy_from_slice(&(k as u32 + 2).to_le_bytes());
