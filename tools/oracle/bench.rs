@@ -1,6 +1,6 @@
 //! Times the proved library's listing beside the Rust's, from one driver, on the same pass files (tools/bench). The two listings must be equal.
 use crate::bwe::link::{self, Told};
-use crate::bwe::pass;
+use crate::bwe::pass::{self, MOST_RECORDS, SHORT_RECORDS};
 use crate::bwe::AckedPacket;
 use crate::make::Random;
 use std::hint::black_box;
@@ -46,7 +46,8 @@ fn timeout(now: u64) -> Record {
 }
 
 /// 30 frames a second, 5 packets each, over a path that keeps their order with up to 3 ms of jitter; a report every 50 ms, and 25 ms after it the timeout that is due.
-fn typical() -> Vec<Record> {
+/// At most so many records.
+fn typical(most: usize) -> Vec<Record> {
     let mut r = Random::from_seed(1);
     let (mut records, mut waiting, mut last, mut sequence) = (vec![], std::collections::VecDeque::new(), 0, 0);
     for ms in 0.. {
@@ -61,7 +62,7 @@ fn typical() -> Vec<Record> {
         }
         if ms % 50 == 49 {
             let n = waiting.iter().take_while(|p| p.5 <= now).count();
-            if records.len() + n + 2 > 1365 {
+            if records.len() + n + 2 > most {
                 return records;
             }
             records.extend(waiting.drain(..n));
@@ -181,22 +182,28 @@ fn timed(turns: u32, mut list: impl FnMut()) -> f64 {
     start.elapsed().as_nanos() as f64 / turns as f64
 }
 
-fn passes() -> [(&'static str, Vec<Record>); 5] {
+fn passes() -> [(&'static str, Vec<Record>); 6] {
     [
-        ("typical", typical()),
+        ("typical", typical(SHORT_RECORDS)),
+        ("typical, up to 65,535 records", typical(MOST_RECORDS)),
         ("1,024 packets in order", large(0..1024)),
         ("1,024 packets, last first", large((0..1024).rev())),
         ("1,024 packets, shuffled", large(shuffled().into_iter())),
-        ("timeouts only", (0..1365).map(|i| timeout((1000 + 25 * i) * MS)).collect()),
+        ("timeouts only", (0..SHORT_RECORDS as u64).map(|i| timeout((1000 + 25 * i) * MS)).collect()),
     ]
+}
+
+/// Listings a round: one of some 65,535 records takes longer than 20 of the other passes.
+fn turns_a_round(records: &[Record]) -> u32 {
+    if records.len() > SHORT_RECORDS { 1 } else { 20 }
 }
 
 /// Lists one pass so many times on one side, for a count of instructions.
 pub fn turns(name: &str, side: &str, turns: u32) {
     let (_, records) = passes().into_iter().find(|(n, _)| *n == name).expect("no such pass");
     let file = file(&records);
-    let mut out = vec![0; 65_536];
-    let mut theirs = Vec::with_capacity(65_536);
+    let mut out = vec![0; pass::least_output(records.len()) as usize];
+    let mut theirs = Vec::with_capacity(out.len());
     let events = events(&records);
     for _ in 0..turns {
         match side {
@@ -221,17 +228,17 @@ pub fn turns(name: &str, side: &str, turns: u32) {
 pub fn times(rounds: u32) {
     for (name, records) in passes() {
         let file = file(&records);
-        let mut out = vec![0; 65_536];
+        let mut out = vec![0; pass::least_output(records.len()) as usize];
         let n = ours(&file, &mut out);
-        let mut theirs = Vec::with_capacity(65_536);
+        let mut theirs = Vec::with_capacity(out.len());
         pass::list_plain(&file, &mut theirs);
         assert!(out[..n] == theirs[..], "{name}: the listings differ");
-        let (mut a, mut b) = (f64::INFINITY, f64::INFINITY);
+        let (turns, mut a, mut b) = (turns_a_round(&records), f64::INFINITY, f64::INFINITY);
         for _ in 0..rounds {
-            a = a.min(timed(20, || {
+            a = a.min(timed(turns, || {
                 black_box(ours(black_box(&file), &mut out));
             }));
-            b = b.min(timed(20, || {
+            b = b.min(timed(turns, || {
                 theirs.clear();
                 pass::list_plain(black_box(&file), black_box(&mut theirs));
             }));
@@ -245,14 +252,14 @@ pub fn times(rounds: u32) {
         live_ours(&records, &mut link, |t| said.push(t));
         live_rust(&events, |t| theirs.push(t));
         assert!(said == theirs, "{name}: the live calls differ");
-        let (mut a, mut b) = (f64::INFINITY, f64::INFINITY);
+        let (turns, mut a, mut b) = (turns_a_round(&records), f64::INFINITY, f64::INFINITY);
         for _ in 0..rounds {
-            a = a.min(timed(20, || {
+            a = a.min(timed(turns, || {
                 live_ours(black_box(&records), &mut link, |t| {
                     black_box(t);
                 })
             }));
-            b = b.min(timed(20, || {
+            b = b.min(timed(turns, || {
                 live_rust(black_box(&events), |t| {
                     black_box(t);
                 })
@@ -267,7 +274,7 @@ pub fn times(rounds: u32) {
 /// The least times of reading a link after the typical pass (words to a link, question 1) and of opening one (a link to words).
 fn alone(rounds: u32) {
     let (mut link, mut other) = ([0; 100], [0; 100]);
-    live_ours(&typical(), &mut link, |_| ());
+    live_ours(&typical(SHORT_RECORDS), &mut link, |_| ());
     let (mut bitrate, mut hypothesis, mut next, mut threshold) = (0.0, 0, 0, 0.0);
     let (mut read, mut open) = (f64::INFINITY, f64::INFINITY);
     for _ in 0..rounds {
@@ -301,11 +308,11 @@ pub fn bench(processes: u32, rounds: u32) {
             }
         }
     }
-    println!("{:<30} {:>7} {:>5} {:>19} {:>19} {:>6}", "", "", "", "ns a packet", "ns a call", "");
-    println!("{:<30} {:>7} {:>5} {:>9} {:>9} {:>9} {:>9} {:>6}", "pass", "packets", "calls", "ours", "Rust", "ours", "Rust", "ratio");
+    println!("{:<36} {:>7} {:>5} {:>19} {:>19} {:>6}", "", "", "", "ns a packet", "ns a call", "");
+    println!("{:<36} {:>7} {:>5} {:>9} {:>9} {:>9} {:>9} {:>6}", "pass", "packets", "calls", "ours", "Rust", "ours", "Rust", "ratio");
     for (name, packets, calls, a, b) in least {
         let each = |time: f64, n: usize| if n == 0 || time.is_nan() { "-".into() } else { format!("{:.1}", time / n as f64) };
         let ratio = if b.is_nan() { "-".into() } else { format!("{:.2}", a / b) };
-        println!("{name:<30} {packets:>7} {calls:>5} {:>9} {:>9} {:>9} {:>9} {ratio:>6}", each(a, packets), each(b, packets), each(a, calls), each(b, calls));
+        println!("{name:<36} {packets:>7} {calls:>5} {:>9} {:>9} {:>9} {:>9} {ratio:>6}", each(a, packets), each(b, packets), each(a, calls), each(b, calls));
     }
 }

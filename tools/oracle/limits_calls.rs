@@ -1,8 +1,8 @@
 //! Cases of whole links and pass files at the limits of questions 2 to 13 and beside them, and with two questions that are answered with no: a fixed list.
 use crate::bwe::drive::Answers;
-use crate::bwe::pass::RECORD_BYTES;
+use crate::bwe::pass::{LEAST_OUTPUT, RECORD_BYTES};
 use crate::limits::{b, beside, floats, Cases, LAST, MS};
-use crate::pass_files::{write_case, LEAST_OUTPUT};
+use crate::pass_files::write_case;
 use std::io::{BufWriter, Write};
 
 /// The moment of a report.
@@ -174,7 +174,7 @@ fn packet(sequence: u64, size: u16, remote: u64) -> Record {
 }
 
 // The records in a chain, each with the next one's number.
-fn chained(mut records: Vec<Record>) -> Vec<u8> {
+pub fn chained(mut records: Vec<Record>) -> Vec<u8> {
     let last = records.len() - 1;
     for k in 0..last {
         records[k][..4].copy_from_slice(&(k as u32 + 2).to_le_bytes());

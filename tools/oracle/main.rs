@@ -6,11 +6,12 @@
 //!     oracle demand3 SEED COUNT         looks for a list of calls that breaks demand 3
 //!     oracle zero_sizes SIZE            the user's failure: the first half second's packets have this size
 //!     oracle entries                    how far the growth table lies from this machine's `powf`
-//!     oracle passes SEED COUNT SIZE     pass files with the Rust's listings, to standard output; SIZE is short or long
+//!     oracle passes SEED COUNT SIZE     pass files with the Rust's listings, to standard output; SIZE is short, long or longer
+//!     oracle case ROOM                  the same of the pass file on standard input, with an output of ROOM bytes; ROOM may be enough
 //!     oracle lent SEED CALLS            calls on lent links with the Rust's answers and its state after each, to standard output
 //!     oracle lent_paths SEED CALLS      how often those calls take which path
 //!     oracle limits KIND                cases at each limit and beside it; KIND is modules, links or passes (pass files)
-//!     oracle list                       the listing of the pass file on standard input, or the number of the question that it fails
+//!     oracle list                       as passrun: the listing of the pass file on standard input, or the number of the question that it fails
 //!
 //! A case is 12 words of 8 bytes, little-endian: an operation, 5 inputs, 6 answers. drive.rs has the operations, make.rs the cases.
 #[macro_export]
@@ -92,6 +93,7 @@ mod lent_make;
 mod lent_state;
 mod limits;
 mod limits_calls;
+mod longer;
 mod make;
 mod pass_files;
 
@@ -107,7 +109,8 @@ fn main() {
         Some("lent") if words.len() == 4 => lent::make(words[2].parse().unwrap(), words[3].parse().unwrap()),
         Some("lent_paths") if words.len() == 4 => lent::paths(words[2].parse().unwrap(), words[3].parse().unwrap()),
         Some("list") if words.len() == 2 => pass_files::list(),
-        Some("passes") if words.len() == 5 => pass_files::make(words[2].parse().unwrap(), words[3].parse().unwrap(), words[4] == "long"),
+        Some("passes") if words.len() == 5 => pass_files::make(words[2].parse().unwrap(), words[3].parse().unwrap(), &words[4]),
+        Some("case") if words.len() == 3 => pass_files::case(&words[2]),
         Some("limits") if words.len() == 3 => match words[2].as_str() {
             "modules" => limits::modules(),
             "links" => limits_calls::links(),
@@ -121,7 +124,7 @@ fn main() {
         #[cfg(bench)]
         Some("turns") if words.len() == 5 => bench::turns(&words[2], &words[3], words[4].parse().unwrap()),
         _ => {
-            eprintln!("usage: oracle make MODULE SEED COUNT | distance A B | listings A B | demand3 SEED COUNT | zero_sizes SIZE | entries | passes SEED COUNT SIZE | limits KIND | lent SEED CALLS | lent_paths SEED CALLS | list");
+            eprintln!("usage: oracle make MODULE SEED COUNT | distance A B | listings A B | demand3 SEED COUNT | zero_sizes SIZE | entries | passes SEED COUNT SIZE | case ROOM | limits KIND | lent SEED CALLS | lent_paths SEED CALLS | list");
             std::process::exit(2);
         }
     }

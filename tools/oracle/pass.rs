@@ -6,7 +6,19 @@ use crate::rtp_::{DataSize, TwccSeq};
 use std::io::Write;
 
 pub const RECORD_BYTES: usize = 48;
-pub const MOST_RECORDS: usize = 1365;
+
+/// The most records of a file that the library takes.
+pub const MOST_RECORDS: usize = 65_535;
+
+/// The most that `passrun` takes. Question 13 asks for `LEAST_OUTPUT` bytes up to here.
+pub const SHORT_RECORDS: usize = 1365;
+
+pub const LEAST_OUTPUT: u32 = 65_536;
+
+/// The least output that question 13 asks for where a file has so many records, linked or not.
+pub fn least_output(records: usize) -> u32 {
+    if records <= SHORT_RECORDS { LEAST_OUTPUT } else { (records * RECORD_BYTES) as u32 }
+}
 
 /// A record's fields.
 #[derive(Clone, Copy)]
@@ -43,10 +55,10 @@ fn record(file: &[u8], number: usize) -> Record<'_> {
     Record(&file[(number - 1) * RECORD_BYTES..number * RECORD_BYTES])
 }
 
-/// Questions 10 to 12.
-fn judge(file: &[u8]) -> Result<(), u64> {
+/// Questions 10 to 12, of a file of at most so many records.
+fn judge(file: &[u8], most: usize) -> Result<(), u64> {
     let records = file.len() / RECORD_BYTES;
-    if file.len() % RECORD_BYTES != 0 || !(1..=MOST_RECORDS).contains(&records) {
+    if file.len() % RECORD_BYTES != 0 || !(1..=most).contains(&records) {
         return Err(10);
     }
     let mut k = 1;
@@ -86,9 +98,9 @@ fn line(link: &Link, record: usize, number: u64, out: &mut impl Write) {
     writeln!(out, "{record} {number} {letter} {estimate:016x} {timeout}").unwrap();
 }
 
-/// The listing, or the number of the question that the file fails.
-pub fn list(file: &[u8], out: &mut impl Write) -> Result<(), u64> {
-    judge(file)?;
+/// The listing of a file of at most so many records, or the number of the question that it fails.
+pub fn list(file: &[u8], most: usize, out: &mut impl Write) -> Result<(), u64> {
+    judge(file, most)?;
     let mut link = open(1e6, 500_000_000, 150_000_000)?;
     let mut waiting = Lists::default();
     let mut k = 1;
