@@ -19,5 +19,7 @@ int main()
         return 1;
     if (hornetpewter_read(&link, &bitrate, &hypothesis, &next_timeout, &threshold) != 0)
         return 1;
+    if (hornetpewter_room(HORNETPEWTER_RECORD_BYTES) != HORNETPEWTER_LEAST_OUTPUT)
+        return 1;
     return bitrate == 1000000 && hypothesis == HORNETPEWTER_NORMAL && next_timeout == 0 && threshold == 12.5 ? 0 : 1;
 }

@@ -5,9 +5,9 @@
  * many bits per second (bps) the sender may send.
  *
  * Answers. A call returns 0, or the opposite of the number of the question that turned it down: -6 is
- * -HORNETPEWTER_BAD_SIZE. (hornetpewter_list returns the listing's length in the place of 0.) Questions are put in the
- * order of their numbers, 11 and 12 record by record, and the first no gives the number. After a refusal the link's words
- * and all lent places are as they were, and the link goes on with the next call.
+ * -HORNETPEWTER_BAD_SIZE. (In the place of 0 hornetpewter_list returns the listing's length, and hornetpewter_room that of
+ * the output.) Questions are put in the order of their numbers, 11 and 12 record by record, and the first no gives the
+ * number. After a refusal the link's words and all lent places are as they were, and the link goes on with the next call.
  *
  * Clocks. All times are whole nanoseconds (ns) from an origin of the caller's, at most 10^18; the Unix time in ns is past
  * that, so use a monotonic clock or subtract an origin. There are two clocks: `sends`, `receives` and `now` are read from
@@ -23,9 +23,9 @@
  * one link may not, so keep a link to one thread, or put a lock of your own around it.
  *
  * Memory. Nothing is allocated. No call needs more than HORNETPEWTER_STACK_BYTES of stack: as measured, open needs up to
- * 4 KB, report 54, timeout 9, read 2 and list 61. Pointers are valid and aligned for their types, also where a call is
- * refused; a list or a buffer of length 0 may be NULL. What a call writes (the link, the results, the output) overlaps
- * nothing else that is lent to it. The lists of a report are only read and may overlap each other.
+ * 4 KB, report 54, timeout 9, read 2, list 61 and room 1. Pointers are valid and aligned for their types, also where a
+ * call is refused; a list or a buffer of length 0 may be NULL. What a call writes (the link, the results, the output)
+ * overlaps nothing else that is lent to it. The lists of a report are only read and may overlap each other.
  *
  * Machines. The archive is for x86-64 with the System V calling convention (Linux), and needs memcpy and memset.
  * Floats are rounded to nearest and subnormal ones are kept, as a thread has it by default: do not link the gateway with
@@ -45,8 +45,9 @@ extern "C" {
 #define HORNETPEWTER_FORMAT 1            /* word 0 of a link */
 #define HORNETPEWTER_MOST_PACKETS 1024   /* in a report */
 #define HORNETPEWTER_RECORD_BYTES 48     /* of a pass file */
-#define HORNETPEWTER_MOST_RECORDS 1365
-#define HORNETPEWTER_LEAST_OUTPUT 65536  /* bytes of output for hornetpewter_list */
+#define HORNETPEWTER_MOST_RECORDS 65535
+#define HORNETPEWTER_LEAST_OUTPUT 65536  /* bytes of output for hornetpewter_list, enough for up to 1,365 records */
+#define HORNETPEWTER_MOST_OUTPUT 3145680 /* enough for every file */
 #define HORNETPEWTER_STACK_BYTES 65536
 
 typedef struct {
@@ -64,10 +65,10 @@ enum hornetpewter_refusal {
     HORNETPEWTER_BAD_MOMENT = 7,         /* is now at most 10^18 ns and a whole ms? */
     HORNETPEWTER_BAD_PROBE = 8,          /* is a probe, if present, finite and from 0 to 10^14 bps? */
     HORNETPEWTER_TOO_MANY_BYTES = 9,     /* does the window's byte sum stay at or below 2,147,483,647? */
-    HORNETPEWTER_BAD_LENGTH = 10,        /* is a pass file's length 48 times 1 to 1,365? */
+    HORNETPEWTER_BAD_LENGTH = 10,        /* is a pass file's length 48 times 1 to 65,535? */
     HORNETPEWTER_BAD_KIND = 11,          /* is a linked record's kind 1 to 3, and a report's flag 0 or 1? */
     HORNETPEWTER_BAD_NEXT = 12,          /* is its next 0, or above its own number and not past the last? */
-    HORNETPEWTER_SHORT_OUTPUT = 13       /* does the lent output have at least 65,536 bytes? */
+    HORNETPEWTER_SHORT_OUTPUT = 13       /* has the output 65,536 bytes, or 48 a record where there are more than 1,365? */
 };
 
 /* What the delays say of the path. */
@@ -119,10 +120,17 @@ int64_t hornetpewter_read(const hornetpewter_link *link,
 /*
  * Lists a pass file, a recorded pass: a line for each report and timeout of a link opened at 1,000,000 bps with windows of
  * 500 and 150 ms, with record number, refusal number or 0, hypothesis letter (O, N, U), the bits of the estimate in
- * hexadecimal, and the next timeout. Returns the listing's length in bytes; bytes of `out` after it are as they were. Puts
- * questions 10 to 13. A refused call inside a file is a line of its listing.
+ * hexadecimal, and the next timeout. `out` has as many bytes as hornetpewter_room says, or more. Returns the listing's
+ * length in bytes; bytes of `out` after it are as they were. Puts questions 10 to 13. A refused call inside a file is a
+ * line of its listing.
  */
 int64_t hornetpewter_list(const uint8_t *file, size_t file_length, uint8_t *out, size_t out_length);
+
+/*
+ * How many bytes of output hornetpewter_list wants for a file of that length: 65,536, or, where the file has more than
+ * 1,365 records, 48 for each that it has, linked or not. Puts question 10.
+ */
+int64_t hornetpewter_room(size_t file_length);
 
 #ifdef __cplusplus
 }

@@ -6,7 +6,10 @@
 #include <stdlib.h>
 #include <string.h>
 
-#define MOST_LENT 2048 /* packets of a list */
+#define MOST_LENT HORNETPEWTER_MOST_RECORDS /* packets of a list */
+#define MOST_FILE ((HORNETPEWTER_MOST_RECORDS + 1) * HORNETPEWTER_RECORD_BYTES + 1)
+#define MOST_OUT (HORNETPEWTER_MOST_OUTPUT + 1)
+#define MARK '#'
 
 const char *wrong;
 
@@ -141,5 +144,41 @@ int64_t lent_read(const hornetpewter_link *link, results *r)
     if (memcmp(words, &words_before, sizeof *words) != 0)
         wrong = "a word changed by reading";
     take_back(r);
+    return answer;
+}
+
+static int marked(const uint8_t *from, const uint8_t *end)
+{
+    while (from < end && *from == MARK)
+        from++;
+    return from == end;
+}
+
+int64_t lent_list(const uint8_t *file, size_t file_length, size_t out_length, const uint8_t **listing)
+{
+    static uint8_t *files, *outs;
+    if (!files) {
+        files = fenced(MOST_FILE);
+        outs = fenced(MOST_OUT);
+    }
+    if (file_length > MOST_FILE || out_length > MOST_OUT) {
+        fputs("a file or an output is too long to be lent\n", stderr);
+        exit(2);
+    }
+    /* both end at their fences; an empty one is none at all */
+    uint8_t *lent = files + (MOST_FILE - file_length), *out = outs + (MOST_OUT - out_length);
+    if (file_length > 0)
+        memcpy(lent, file, file_length);
+    memset(outs, MARK, MOST_OUT);
+    wrong = NULL;
+    int64_t answer = hornetpewter_list(file_length > 0 ? lent : NULL, file_length, out_length > 0 ? out : NULL, out_length);
+    size_t written = answer > 0 ? (size_t)answer : 0;
+    if (written > out_length || answer < -13 || (answer < 0 && answer > -10))
+        wrong = "a listing longer than the output, or an answer of no question that the call puts";
+    else if (!fence_whole(files) || !fence_whole(outs) || !marked(outs, out) || !marked(out + written, outs + MOST_OUT))
+        wrong = "memory beside the listing changed";
+    else if (file_length > 0 && memcmp(lent, file, file_length) != 0)
+        wrong = "the file changed";
+    *listing = out;
     return answer;
 }

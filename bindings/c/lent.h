@@ -29,4 +29,10 @@ int64_t lent_report(hornetpewter_link *link, const packets *p, uint32_t has_prob
 int64_t lent_timeout(hornetpewter_link *link, uint64_t now, results *r);
 int64_t lent_read(const hornetpewter_link *link, results *r);
 
+/*
+ * As hornetpewter_list, with a copy of the file and an output of so many bytes in fenced memory. `*listing` is that output,
+ * until the next file is listed.
+ */
+int64_t lent_list(const uint8_t *file, size_t file_length, size_t out_length, const uint8_t **listing);
+
 #endif

@@ -11,12 +11,13 @@
 #define PAINT 0x5a
 #define MS UINT64_C(1000000)
 
-const char *const stack_call[STACK_CALLS] = {"hornetpewter_open", "hornetpewter_report", "hornetpewter_timeout", "hornetpewter_read", "hornetpewter_list"};
+const char *const stack_call[STACK_CALLS] = {"hornetpewter_open", "hornetpewter_report", "hornetpewter_timeout",
+                                             "hornetpewter_read", "hornetpewter_list",   "hornetpewter_room"};
 
 /* What the calls are given. */
 static hornetpewter_link link_;
 static uint64_t lists[5][HORNETPEWTER_MOST_PACKETS], next_timeout;
-static uint8_t file[HORNETPEWTER_MOST_RECORDS * HORNETPEWTER_RECORD_BYTES], out[HORNETPEWTER_LEAST_OUTPUT];
+static uint8_t file[HORNETPEWTER_MOST_RECORDS * HORNETPEWTER_RECORD_BYTES], out[HORNETPEWTER_MOST_OUTPUT];
 static double bitrate, threshold;
 static uint32_t hypothesis;
 
@@ -34,21 +35,21 @@ static void fill_lists(void)
     }
 }
 
-/* A pass of those packets, then its report. */
+/* A pass of those packets, then its report, then timeouts. */
 static void fill_file(void)
 {
-    for (uint32_t k = 0; k <= HORNETPEWTER_MOST_PACKETS; k++) {
+    const uint32_t packets = HORNETPEWTER_MOST_PACKETS, records = HORNETPEWTER_MOST_RECORDS;
+    for (uint32_t k = 0; k < records; k++) {
         uint8_t *record = file + (size_t)HORNETPEWTER_RECORD_BYTES * k;
-        int last = k == HORNETPEWTER_MOST_PACKETS;
-        uint32_t next = last ? 0 : k + 2;
+        uint32_t next = k + 1 == records ? 0 : k + 2;
         uint16_t size = 1200;
         uint64_t now = 12000 * MS;
         memcpy(record, &next, sizeof next);
-        record[4] = last ? 2 : 1;
+        record[4] = k < packets ? 1 : k == packets ? 2 : 3;
         memcpy(record + 6, &size, sizeof size);
-        for (int l = 0; l < 3 && !last; l++)
+        for (int l = 0; l < 3 && k < packets; l++)
             memcpy(record + 16 + 8 * l, &lists[2 + l][k], 8);
-        if (last)
+        if (k >= packets)
             memcpy(record + 32, &now, sizeof now);
     }
 }
@@ -65,8 +66,10 @@ static int64_t call(int which)
         return hornetpewter_timeout(&link_, 12025 * MS, &bitrate, &hypothesis, &next_timeout);
     case 3:
         return hornetpewter_read(&link_, &bitrate, &hypothesis, &next_timeout, &threshold);
+    case 4:
+        return hornetpewter_list(file, sizeof file, out, sizeof out) > 0 ? 0 : -1;
     default:
-        return hornetpewter_list(file, (HORNETPEWTER_MOST_PACKETS + 1) * HORNETPEWTER_RECORD_BYTES, out, sizeof out) > 0 ? 0 : -1;
+        return hornetpewter_room(sizeof file) == sizeof out ? 0 : -1;
     }
 }
 

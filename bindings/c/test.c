@@ -1,6 +1,5 @@
 /* Tests of the calls from C: test SAMPLE.. prints a line a test and exits with 1 where one failed. (bindings/c/test runs it.) */
 #define _DEFAULT_SOURCE
-#include "fence.h"
 #include "hornetpewter.h"
 #include "lent.h"
 #include "listing.h"
@@ -173,13 +172,10 @@ static void example_as_a_file(void)
 {
     static const char expected[] = "1 0 N 412e848000000000 1025000000\n3 0 N 413e848000000000 1035000000\n";
     const size_t length = sizeof expected - 1;
-    uint8_t *out = fenced(HORNETPEWTER_LEAST_OUTPUT);
+    const uint8_t *out;
     uint64_t lines = 0;
-    memset(out, '#', HORNETPEWTER_LEAST_OUTPUT);
-    CHECK(hornetpewter_list(example(), 3 * HORNETPEWTER_RECORD_BYTES, out, HORNETPEWTER_LEAST_OUTPUT) == (int64_t)length);
-    CHECK(memcmp(out, expected, length) == 0 && fence_whole(out));
-    for (size_t i = length; i < HORNETPEWTER_LEAST_OUTPUT; i++)
-        CHECK(out[i] == '#');
+    ANSWERS(lent_list(example(), 3 * HORNETPEWTER_RECORD_BYTES, HORNETPEWTER_LEAST_OUTPUT, &out), (int64_t)length);
+    CHECK(memcmp(out, expected, length) == 0);
     CHECK(listing_differs(example(), out, length, &lines) == 0 && lines == 2);
 }
 
@@ -310,34 +306,118 @@ static void moments(void)
     }
 }
 
+/* ---- pass files and their outputs */
 static void list_refusals(void)
 {
-    static uint8_t file[(HORNETPEWTER_MOST_RECORDS + 1) * HORNETPEWTER_RECORD_BYTES];
-    uint8_t *out = fenced(HORNETPEWTER_LEAST_OUTPUT);
-    const size_t room = HORNETPEWTER_LEAST_OUTPUT, length = 3 * HORNETPEWTER_RECORD_BYTES;
-    memset(out, '#', room);
-    const size_t lengths[] = {0, 1, 47, 49, length - 1, length + 1, sizeof file};
+    static uint8_t file[(HORNETPEWTER_MOST_RECORDS + 1) * HORNETPEWTER_RECORD_BYTES + 1];
+    const size_t room = HORNETPEWTER_LEAST_OUTPUT, length = 3 * HORNETPEWTER_RECORD_BYTES, most = HORNETPEWTER_MOST_RECORDS * HORNETPEWTER_RECORD_BYTES;
+    const size_t lengths[] = {0, 1, 47, 49, length - 1, length + 1, 65519, 65521, 65567, 65569, most - 1, most + 1, most + 47, most + 48, most + 49};
+    const uint8_t *out;
     memcpy(file, example(), length);
-    for (size_t i = 0; i < sizeof lengths / sizeof *lengths; i++)
-        CHECK(hornetpewter_list(file, lengths[i], out, room) == -HORNETPEWTER_BAD_LENGTH);
-    CHECK(hornetpewter_list(NULL, 0, NULL, 0) == -HORNETPEWTER_BAD_LENGTH);
+    for (size_t i = 0; i < sizeof lengths / sizeof *lengths; i++) {
+        ANSWERS(lent_list(file, lengths[i], HORNETPEWTER_MOST_OUTPUT, &out), -HORNETPEWTER_BAD_LENGTH);
+        ANSWERS(lent_list(file, lengths[i], 0, &out), -HORNETPEWTER_BAD_LENGTH);
+    }
     file[4] = 4;
     put(file, 1, 4);
-    CHECK(hornetpewter_list(file, length, out, 0) == -HORNETPEWTER_BAD_KIND);
+    ANSWERS(lent_list(file, length, 0, &out), -HORNETPEWTER_BAD_KIND);
     file[4] = 2;
     file[5] = 2;
-    CHECK(hornetpewter_list(file, length, out, 0) == -HORNETPEWTER_BAD_KIND);
+    ANSWERS(lent_list(file, length, 0, &out), -HORNETPEWTER_BAD_KIND);
     file[5] = 1;
-    CHECK(hornetpewter_list(file, length, out, 0) == -HORNETPEWTER_BAD_NEXT);
+    ANSWERS(lent_list(file, length, 0, &out), -HORNETPEWTER_BAD_NEXT);
     put(file, 4, 4);
-    CHECK(hornetpewter_list(file, length, out, room) == -HORNETPEWTER_BAD_NEXT);
+    ANSWERS(lent_list(file, length, room, &out), -HORNETPEWTER_BAD_NEXT);
     put(file, 3, 4);
-    CHECK(hornetpewter_list(file, length, out + 1, room - 1) == -HORNETPEWTER_SHORT_OUTPUT);
-    CHECK(hornetpewter_list(file, length, NULL, 0) == -HORNETPEWTER_SHORT_OUTPUT);
-    for (size_t i = 0; i < room; i++)
-        CHECK(out[i] == '#');
-    CHECK(fence_whole(out));
-    CHECK(hornetpewter_list(file, length, out, room) > 0);
+    ANSWERS(lent_list(file, length, room - 1, &out), -HORNETPEWTER_SHORT_OUTPUT);
+    ANSWERS(lent_list(file, length, 0, &out), -HORNETPEWTER_SHORT_OUTPUT);
+    CHECK(lent_list(file, length, room, &out) > 0 && !wrong);
+}
+
+/* So many timeouts at the last instant, whose lines are long, each linked to the next one. */
+static uint8_t *timeouts(size_t records)
+{
+    static uint8_t file[HORNETPEWTER_MOST_RECORDS * HORNETPEWTER_RECORD_BYTES];
+    for (size_t k = 0; k < records; k++) {
+        uint8_t *record = file + k * HORNETPEWTER_RECORD_BYTES;
+        memset(record, 0, HORNETPEWTER_RECORD_BYTES);
+        put(record, k + 1 == records ? 0 : k + 2, 4);
+        record[4] = 3;
+        put(record + 32, LAST_INSTANT, 8);
+    }
+    return file;
+}
+
+/* Files on both sides of the limits, and what output they want. */
+static const struct {
+    size_t records, length, room;
+} limits[] = {{1, 48, 65536},       {1364, 65472, 65536},      {1365, 65520, 65536},      {1366, 65568, 65568},
+              {1367, 65616, 65616}, {65534, 3145632, 3145632}, {65535, 3145680, 3145680}};
+
+static void room_at_its_limits(void)
+{
+    const size_t bad[] = {0, 1, 3145728, 3145776, (size_t)3 << 32, ((size_t)3 << 32) + 48, (size_t)3 << 62, SIZE_MAX / 48 * 48, SIZE_MAX - 1, SIZE_MAX};
+    for (size_t i = 0; i < sizeof limits / sizeof *limits; i++) {
+        CHECK(hornetpewter_room(limits[i].length - 1) == -HORNETPEWTER_BAD_LENGTH);
+        CHECK(hornetpewter_room(limits[i].length) == (int64_t)limits[i].room);
+        CHECK(hornetpewter_room(limits[i].length + 1) == -HORNETPEWTER_BAD_LENGTH);
+    }
+    for (size_t i = 0; i < sizeof bad / sizeof *bad; i++)
+        CHECK(hornetpewter_room(bad[i]) == -HORNETPEWTER_BAD_LENGTH);
+}
+
+static void list_at_its_limits(void)
+{
+    for (size_t i = 0; i < sizeof limits / sizeof *limits; i++) {
+        const uint8_t *file = timeouts(limits[i].records), *out;
+        const size_t length = limits[i].length, room = limits[i].room;
+        uint64_t lines = 0;
+        ANSWERS(lent_list(file, length, 0, &out), -HORNETPEWTER_SHORT_OUTPUT);
+        ANSWERS(lent_list(file, length, room - 1, &out), -HORNETPEWTER_SHORT_OUTPUT);
+        int64_t listed = lent_list(file, length, room, &out);
+        CHECK(listed > 0 && !wrong);
+        CHECK(listed > 0 && listing_differs(file, out, (size_t)listed, &lines) == 0 && lines == limits[i].records);
+        ANSWERS(lent_list(file, length, room + 1, &out), listed);
+    }
+}
+
+/* Records that are not linked count: a longer file of which one record is linked. */
+static void unlinked_records_want_output(void)
+{
+    static const char expected[] = "1 0 N 412e848000000000 1000000000025000000\n";
+    uint8_t *file = timeouts(1366);
+    const uint8_t *out;
+    put(file, 0, 4);
+    ANSWERS(lent_list(file, 65568, HORNETPEWTER_LEAST_OUTPUT, &out), -HORNETPEWTER_SHORT_OUTPUT);
+    ANSWERS(lent_list(file, 65568, 65567, &out), -HORNETPEWTER_SHORT_OUTPUT);
+    ANSWERS(lent_list(file, 65568, 65568, &out), (int64_t)sizeof expected - 1);
+    CHECK(memcmp(out, expected, sizeof expected - 1) == 0);
+    ANSWERS(lent_list(file, 65520, HORNETPEWTER_LEAST_OUTPUT, &out), (int64_t)sizeof expected - 1);
+}
+
+/* The last record of a file has a fault and the output is a byte short; the faults are mended in the order of the questions. */
+static void list_refusals_in_order(void)
+{
+    for (size_t i = 0; i < sizeof limits / sizeof *limits; i++) {
+        const size_t records = limits[i].records, length = limits[i].length, room = limits[i].room;
+        uint8_t *file = timeouts(records), *last = file + length - HORNETPEWTER_RECORD_BYTES;
+        const uint8_t *out;
+        last[4] = 4;
+        put(last, 1, 4);
+        ANSWERS(lent_list(file, length - 1, room - 1, &out), -HORNETPEWTER_BAD_LENGTH);
+        ANSWERS(lent_list(file, length, room - 1, &out), -HORNETPEWTER_BAD_KIND);
+        last[4] = 2;
+        last[5] = 2;
+        ANSWERS(lent_list(file, length, room - 1, &out), -HORNETPEWTER_BAD_KIND);
+        last[5] = 0;
+        ANSWERS(lent_list(file, length, room - 1, &out), -HORNETPEWTER_BAD_NEXT);
+        put(last, records, 4);
+        ANSWERS(lent_list(file, length, room - 1, &out), -HORNETPEWTER_BAD_NEXT);
+        put(last, records + 1, 4);
+        ANSWERS(lent_list(file, length, room - 1, &out), -HORNETPEWTER_BAD_NEXT);
+        put(last, 0, 4);
+        ANSWERS(lent_list(file, length, room - 1, &out), -HORNETPEWTER_SHORT_OUTPUT);
+    }
 }
 
 /* ---- words */
@@ -513,7 +593,7 @@ static void links_of_their_own_threads(void)
 /* The figures of the header's note on memory. */
 static void stack_need(void)
 {
-    static const size_t most[STACK_CALLS] = {4000, 54000, 9000, 2000, 61000};
+    static const size_t most[STACK_CALLS] = {4000, 54000, 9000, 2000, 61000, 1000};
     size_t need[STACK_CALLS];
     CHECK(stack_needs(need) == 0);
     for (int k = 0; k < STACK_CALLS; k++) {
@@ -529,7 +609,7 @@ static char **sample;
 static void samples_by_live_calls(void)
 {
     static uint8_t file[HORNETPEWTER_MOST_RECORDS * HORNETPEWTER_RECORD_BYTES + 1];
-    uint8_t *out = fenced(HORNETPEWTER_LEAST_OUTPUT);
+    const uint8_t *out;
     uint64_t lines = 0;
     for (int k = 0; k < samples; k++) {
         FILE *f = fopen(sample[k], "rb");
@@ -538,8 +618,9 @@ static void samples_by_live_calls(void)
             continue;
         size_t length = fread(file, 1, sizeof file, f);
         fclose(f);
-        int64_t listed = hornetpewter_list(file, length, out, HORNETPEWTER_LEAST_OUTPUT);
-        CHECK(listed > 0);
+        int64_t room = hornetpewter_room(length);
+        int64_t listed = room > 0 ? lent_list(file, length, (size_t)room, &out) : room;
+        CHECK(listed > 0 && !wrong);
         CHECK(listed > 0 && listing_differs(file, out, (size_t)listed, &lines) == 0);
     }
     CHECK(samples > 0 && lines > 0);
@@ -551,9 +632,10 @@ static const struct {
     void (*run)(void);
 } tests[] = {
     TEST(open_at_its_limits), TEST(open_refusals), TEST(example_by_live_calls), TEST(example_as_a_file), TEST(report_refusals_in_order),
-    TEST(report_lists), TEST(report_instants_and_sizes), TEST(report_probes), TEST(moments), TEST(list_refusals), TEST(other_formats),
-    TEST(unknown_tags), TEST(words_not_read), TEST(history_past_its_length), TEST(copies_go_on_alike), TEST(refused_and_on), TEST(lists_that_overlap),
-    TEST(links_of_their_own_threads), TEST(stack_need), TEST(samples_by_live_calls),
+    TEST(report_lists), TEST(report_instants_and_sizes), TEST(report_probes), TEST(moments), TEST(list_refusals), TEST(room_at_its_limits),
+    TEST(list_at_its_limits), TEST(unlinked_records_want_output), TEST(list_refusals_in_order), TEST(other_formats), TEST(unknown_tags), TEST(words_not_read),
+    TEST(history_past_its_length), TEST(copies_go_on_alike), TEST(refused_and_on), TEST(lists_that_overlap), TEST(links_of_their_own_threads), TEST(stack_need),
+    TEST(samples_by_live_calls),
 };
 
 int main(int argc, char **argv)

@@ -59,6 +59,8 @@ unsafe extern "C" {
         out: *mut u8,
         out_length: usize,
     ) -> i64;
+
+    safe fn hornetpewter_room(file_length: usize) -> i64;
 }
 
 /// The refusal of a code below 0. The archive is proved to return 0, a length, or -1 to -13, so the
@@ -88,6 +90,10 @@ fn accepted(code: i64) -> Result<(), Refusal> {
     } else {
         Err(refusal(code))
     }
+}
+
+fn length(code: i64) -> Result<usize, Refusal> {
+    usize::try_from(code).map_err(|_| refusal(code))
 }
 
 /// The hypothesis of a tag, which is proved to be 0, 1 or 2. The last arm has only 0 to meet.
@@ -215,5 +221,9 @@ pub fn read(words: &Words) -> Result<Reading, Refusal> {
 pub fn list(file: &[u8], out: &mut [u8]) -> Result<usize, Refusal> {
     // SAFETY: the pointers and lengths are those of two slices, and `out` is borrowed by nobody else.
     let code = unsafe { hornetpewter_list(file.as_ptr(), file.len(), out.as_mut_ptr(), out.len()) };
-    usize::try_from(code).map_err(|_| refusal(code))
+    length(code)
+}
+
+pub fn room(file_length: usize) -> Result<usize, Refusal> {
+    length(hornetpewter_room(file_length))
 }

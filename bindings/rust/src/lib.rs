@@ -91,8 +91,14 @@ pub const LINK_WORDS: usize = 100;
 /// The most packets that a report may have.
 pub const MOST_PACKETS: usize = 1_024;
 
-/// The least room that [`list`] asks for, in bytes.
+/// The most records that a pass file may have.
+pub const MOST_RECORDS: usize = 65_535;
+
+/// The least output that [`list`] asks for, in bytes: enough for a file of up to 1,365 records.
 pub const LEAST_OUTPUT: usize = 65_536;
+
+/// Output that is enough for every file, in bytes.
+pub const MOST_OUTPUT: usize = 3_145_680;
 
 /// A packet that the other side received, as a report has it.
 #[derive(Clone, Copy, Debug, PartialEq, Eq)]
@@ -269,15 +275,16 @@ impl Link {
 }
 
 /// Lists a pass file, a recorded pass, into the start of `out` and gives the listing's length. The
-/// bytes after it, and all of them after a refusal, are as they were.
+/// bytes after it, and all of them after a refusal, are as they were. [`room`] says how long `out` has
+/// to be.
 ///
 /// ```
-/// use hornetpewter::{LEAST_OUTPUT, Refusal, list};
+/// use hornetpewter::{Refusal, list, room};
 ///
 /// let mut file = [0; 48]; // one record, the last:
 /// file[4] = 3; // a timeout
 /// file[32..40].copy_from_slice(&1_000_000_000_u64.to_le_bytes()); // at 1 s
-/// let mut out = [0; LEAST_OUTPUT];
+/// let mut out = vec![0; room(file.len())?];
 /// let length = list(&file, &mut out)?;
 /// assert_eq!(&out[..length], b"1 0 N 412e848000000000 1025000000\n");
 /// # Ok::<(), Refusal>(())
@@ -289,6 +296,25 @@ impl Link {
 /// questions 10 to 13. A refused call of the file is a line of the listing.
 pub fn list(file: &[u8], out: &mut [u8]) -> Result<usize, Refusal> {
     ffi::list(file, out)
+}
+
+/// How many bytes of output [`list`] wants for a file of that length: 65,536, or, where the file has
+/// more than 1,365 records, 48 for each that it has, linked or not.
+///
+/// ```
+/// use hornetpewter::{LEAST_OUTPUT, MOST_OUTPUT, MOST_RECORDS, Refusal, room};
+///
+/// assert_eq!(room(48 * 1_365), Ok(LEAST_OUTPUT));
+/// assert_eq!(room(48 * 1_366), Ok(65_568));
+/// assert_eq!(room(48 * MOST_RECORDS), Ok(MOST_OUTPUT));
+/// assert_eq!(room(48 * MOST_RECORDS + 48), Err(Refusal::BadLength));
+/// ```
+///
+/// # Errors
+///
+/// [`Refusal::BadLength`]: question 10.
+pub fn room(file_length: usize) -> Result<usize, Refusal> {
+    ffi::room(file_length)
 }
 
 const NS_PER_MS: u64 = 1_000_000;

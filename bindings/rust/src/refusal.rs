@@ -37,13 +37,13 @@ pub enum Refusal {
     /// 9: does the byte sum of the acknowledged rate's window stay at or below 2,147,483,647 after
     /// each packet?
     TooManyBytes = 9,
-    /// 10: is the pass file's length 48 times 1 to 1,365?
+    /// 10: is the pass file's length 48 times 1 to 65,535?
     BadLength = 10,
     /// 11: is each linked record's kind 1 to 3, and a report's flag 0 or 1?
     BadKind = 11,
     /// 12: is each linked record's next 0, or above its own number and not past the last?
     BadNext = 12,
-    /// 13: has the output room for 65,536 bytes?
+    /// 13: is the output long enough: 65,536 bytes, or 48 a record where the file has more than 1,365?
     ShortOutput = 13,
 }
 
@@ -66,10 +66,12 @@ impl Refusal {
             Refusal::BadMoment => "now is above 10^18 ns or no whole ms",
             Refusal::BadProbe => "the probe's result is not from 0 to 10^14 bps",
             Refusal::TooManyBytes => "the window's byte sum is above 2,147,483,647",
-            Refusal::BadLength => "the pass file's length is not 48 times 1 to 1,365",
+            Refusal::BadLength => "the pass file's length is not 48 times 1 to 65,535",
             Refusal::BadKind => "a record's kind or flag is unknown",
             Refusal::BadNext => "a record's next is neither 0 nor a record after it",
-            Refusal::ShortOutput => "the output has no room for 65,536 bytes",
+            Refusal::ShortOutput => {
+                "the output is too short: it wants 65,536 bytes, or 48 a record where the file has more than 1,365"
+            }
         }
     }
 }

@@ -2,8 +2,8 @@
 use std::time::Duration;
 
 use hornetpewter::{
-    BandwidthUsage, Estimate, LEAST_OUTPUT, LINK_WORDS, Link, MOST_PACKETS, Packet, Refusal, list,
-    whole_ms, whole_ns,
+    BandwidthUsage, Estimate, LEAST_OUTPUT, LINK_WORDS, Link, MOST_OUTPUT, MOST_PACKETS,
+    MOST_RECORDS, Packet, Refusal, list, room, whole_ms, whole_ns,
 };
 
 const MS: u64 = 1_000_000;
@@ -223,6 +223,89 @@ fn the_first_no_counts() {
     assert_eq!(refused(&wrong, Some(-1.0), MS), Refusal::BadProbe);
     wrong[0].remote = packet(200).remote;
     assert_eq!(refused(&wrong, None, MS), Refusal::TooManyBytes);
+}
+
+/// Timeouts at the last instant, whose lines are long, each linked to the next one.
+fn timeouts(records: usize) -> Vec<u8> {
+    let mut file = vec![];
+    for number in 1..=records {
+        let next = if number == records { 0 } else { number + 1 };
+        let mut timeout = record(next as u32, 3, 0);
+        timeout[32..40].copy_from_slice(&MOST_INSTANT.to_le_bytes());
+        file.extend(timeout);
+    }
+    file
+}
+
+/// How many lines a file has that is listed into so much output, of which the rest stays as it was.
+fn lines(file: &[u8], room: usize) -> usize {
+    let mut out = vec![0xa5; room];
+    let length = list(file, &mut out).unwrap();
+    assert!(out[length..].iter().all(|byte| *byte == 0xa5));
+    out[..length].iter().filter(|byte| **byte == b'\n').count()
+}
+
+/// Numbers of records on both sides of the limits, and the output that they want.
+const LIMITS: [(usize, usize); 5] = [
+    (1, LEAST_OUTPUT),
+    (1_365, LEAST_OUTPUT),
+    (1_366, 65_568),
+    (65_534, 3_145_632),
+    (MOST_RECORDS, MOST_OUTPUT),
+];
+
+#[test]
+fn room_at_its_limits() {
+    for (records, output) in LIMITS {
+        assert_eq!(room(48 * records - 1), Err(Refusal::BadLength));
+        assert_eq!(room(48 * records), Ok(output));
+        assert_eq!(room(48 * records + 1), Err(Refusal::BadLength));
+    }
+    let long = 48 * (MOST_RECORDS + 1);
+    let last = usize::MAX / 48 * 48;
+    for length in [0, 1, long, 3 << 32, (3 << 32) + 48, last, usize::MAX] {
+        assert_eq!(room(length), Err(Refusal::BadLength));
+    }
+}
+
+#[test]
+fn a_listing_at_its_limits() {
+    for (records, output) in LIMITS {
+        let file = timeouts(records);
+        assert_eq!(unlisted(&file, 0), Refusal::ShortOutput);
+        assert_eq!(unlisted(&file, output - 1), Refusal::ShortOutput);
+        assert_eq!(lines(&file, output), records);
+        assert_eq!(lines(&file, output + 1), records);
+    }
+    let longer = timeouts(MOST_RECORDS + 1);
+    assert_eq!(unlisted(&longer, MOST_OUTPUT + 48), Refusal::BadLength);
+}
+
+/// A longer file of which one record is linked.
+#[test]
+fn records_that_are_not_linked_want_output() {
+    let mut file = timeouts(1_366);
+    file[..4].fill(0);
+    assert_eq!(unlisted(&file, LEAST_OUTPUT), Refusal::ShortOutput);
+    assert_eq!(unlisted(&file, 65_567), Refusal::ShortOutput);
+    assert_eq!(lines(&file, 65_568), 1);
+}
+
+/// The faults of a file's last record, with an output that is too short.
+#[test]
+fn the_first_no_of_a_file_counts() {
+    for (records, output) in LIMITS {
+        let mut file = timeouts(records);
+        let last = 48 * (records - 1);
+        file[last..last + 5].copy_from_slice(&[1, 0, 0, 0, 4]);
+        let cut = &file[..last + 47];
+        assert_eq!(unlisted(cut, output - 1), Refusal::BadLength);
+        assert_eq!(unlisted(&file, output - 1), Refusal::BadKind);
+        file[last + 4] = 3;
+        assert_eq!(unlisted(&file, output - 1), Refusal::BadNext);
+        file[last] = 0;
+        assert_eq!(unlisted(&file, output - 1), Refusal::ShortOutput);
+    }
 }
 
 #[test]

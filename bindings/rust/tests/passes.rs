@@ -2,11 +2,11 @@
 #[path = "../examples/live/pass.rs"]
 mod pass;
 
-use hornetpewter::{LEAST_OUTPUT, Link, list};
+use hornetpewter::{LEAST_OUTPUT, Link, list, room};
 use pass::{RECORD_BYTES, calls, open};
 
 fn listing(file: &[u8]) -> String {
-    let mut out = vec![0; LEAST_OUTPUT];
+    let mut out = vec![0; room(file.len()).unwrap()];
     let length = list(file, &mut out).unwrap();
     out.truncate(length);
     String::from_utf8(out).unwrap()
@@ -68,6 +68,13 @@ fn the_sample_with_empty_packets() {
         .filter(|line| line.contains(" 6 "))
         .count();
     assert!(refused > 0);
+}
+
+#[test]
+fn the_sample_with_a_handover() {
+    let file = sample("handover");
+    assert!(file.len() > 1_365 * RECORD_BYTES);
+    assert!(agree(&file) > 100);
 }
 
 #[test]

@@ -1,7 +1,7 @@
 //! Every call on a thread with a small stack.
 use std::thread;
 
-use hornetpewter::{LEAST_OUTPUT, Link, MOST_PACKETS, Packet, list};
+use hornetpewter::{LEAST_OUTPUT, Link, MOST_PACKETS, Packet, list, room};
 
 const MS: u64 = 1_000_000;
 const STACK: usize = 128 << 10;
@@ -25,6 +25,7 @@ fn every_call(packets: &[Packet], out: &mut [u8]) -> usize {
     link.read().unwrap();
     let mut file = [0; 48];
     file[4] = 2;
+    assert_eq!(room(file.len()), Ok(out.len()));
     list(&file, out).unwrap()
 }
 
