@@ -1,6 +1,6 @@
 //! Cases of whole links and pass files at the limits of questions 2 to 13 and beside them, and with two questions that are answered with no: a fixed list.
 use crate::bwe::drive::Answers;
-use crate::bwe::pass::{LEAST_OUTPUT, RECORD_BYTES};
+use crate::bwe::pass::{least_output, LEAST_OUTPUT, MOST_RECORDS, RECORD_BYTES, SHORT_RECORDS};
 use crate::limits::{b, beside, floats, Cases, LAST, MS};
 use crate::pass_files::write_case;
 use std::io::{BufWriter, Write};
@@ -226,6 +226,49 @@ fn two_questions_of_a_file(out: &mut impl Write) {
         write_case(out, &[record(2, TIMEOUT, 0), bad_kind].concat(), room);
         write_case(out, &[record(3, TIMEOUT, 0), bad_kind].concat(), room);
         write_case(out, &[record(3, TIMEOUT, 0), both, record(0, REPORT, 0)].concat(), room);
+    }
+}
+
+// ---- files by the length
+/// A file of so many bytes with the next and the kind of record 1; all else is 0, but records 1,365, 1,366 and 65,535 are timeouts (the program `file_limits`).
+fn sparse(bytes: usize, next: u32, kind: u8) -> Vec<u8> {
+    let mut file = vec![0; bytes.max((MOST_RECORDS + 1) * RECORD_BYTES)];
+    for k in [SHORT_RECORDS, SHORT_RECORDS + 1, MOST_RECORDS] {
+        file[(k - 1) * RECORD_BYTES + 4] = TIMEOUT;
+    }
+    file[..4].copy_from_slice(&next.to_le_bytes());
+    file[4] = kind;
+    file.truncate(bytes);
+    file
+}
+
+/// The case of such a file and an output of so many bytes: number, length of the listing, output that the length wants.
+fn sparse_case(out: &mut impl Write, bytes: usize, next: u32, kind: u8, room: u32) {
+    let mut case = vec![];
+    write_case(&mut case, &sparse(bytes, next, kind), room);
+    let word = |n: usize| u32::from_le_bytes(case[4 * n..4 * n + 4].try_into().unwrap()) as u64;
+    let wanted = if word(2) == 10 { 0 } else { least_output(bytes / RECORD_BYTES) as u64 };
+    for x in [110, bytes as u64, next as u64, kind as u64, room as u64, 0, word(2), word(3), wanted, 0, 0, 0] {
+        out.write_all(&x.to_le_bytes()).unwrap();
+    }
+}
+
+/// Both neighbours of one record, of 1,365, 1,366 and 65,535: of the length by a byte and by a record, of the output by a byte, of the next by one; and two questions.
+pub fn lengths() {
+    let mut out = BufWriter::new(std::io::stdout().lock());
+    for records in [0, 1, 2, SHORT_RECORDS - 1, SHORT_RECORDS, SHORT_RECORDS + 1, MOST_RECORDS - 1, MOST_RECORDS, MOST_RECORDS + 1] {
+        let (bytes, enough) = (records * RECORD_BYTES, least_output(records));
+        for length in [bytes.saturating_sub(1), bytes, bytes + 1] {
+            sparse_case(&mut out, length, 0, TIMEOUT, enough);
+        }
+        for room in [0, LEAST_OUTPUT - 1, LEAST_OUTPUT, enough - 1, enough, enough + 1] {
+            for (next, kind) in [(0, PACKET), (0, REPORT), (0, TIMEOUT), (0, 0), (0, 4), (1, TIMEOUT), (1, 4)] {
+                sparse_case(&mut out, bytes, next, kind, room);
+            }
+        }
+        for next in [1364, 1365, 1366, 1367, 65_534, 65_535, 65_536, 65_537] {
+            sparse_case(&mut out, bytes, next, TIMEOUT, enough);
+        }
     }
 }
 

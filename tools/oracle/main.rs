@@ -10,7 +10,7 @@
 //!     oracle case ROOM                  the same of the pass file on standard input, with an output of ROOM bytes; ROOM may be enough
 //!     oracle lent SEED CALLS            calls on lent links with the Rust's answers and its state after each, to standard output
 //!     oracle lent_paths SEED CALLS      how often those calls take which path
-//!     oracle limits KIND                cases at each limit and beside it; KIND is modules, links or passes (pass files)
+//!     oracle limits KIND                cases at each limit and beside it; KIND is modules, links, passes (pass files) or files (their lengths and outputs)
 //!     oracle list                       as passrun: the listing of the pass file on standard input, or the number of the question that it fails
 //!
 //! A case is 12 words of 8 bytes, little-endian: an operation, 5 inputs, 6 answers. drive.rs has the operations, make.rs the cases.
@@ -115,6 +115,7 @@ fn main() {
             "modules" => limits::modules(),
             "links" => limits_calls::links(),
             "passes" => limits_calls::passes(),
+            "files" => limits_calls::lengths(),
             _ => panic!("no such kind"),
         },
         #[cfg(bench)]

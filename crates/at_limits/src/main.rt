@@ -1,5 +1,5 @@
-// Limits that no stored case of the oracle reaches: the codes that C gets, with files of 1,365 and 1,366 records and files that fail two questions, and with
-// lent links; lines and numbers alone on a line; question 1 before the others; and public functions at limits that a link does not ask of them. Prints what each gives.
+// Limits that no stored case of the oracle reaches: the codes that C gets with lent links; lines and numbers alone on a line; question 1 before the others; and
+// public functions at limits that a link does not ask of them. Prints what each gives.
 use acked_bitrate_estimator::AckedBitrateEstimator;
 use arrival_group::ArrivalGroup;
 use arrival_group::InterGroupDelayDelta;
@@ -31,60 +31,6 @@ fn yes_or_no(yes: bool) {
         return;
     }
     text(b" no");
-}
-
-// ---- the codes that C gets
-// Whether C gets a code for a file of so many bytes, of which the first record has a next and a kind, and the others are zero; record 1,365 is a timeout.
-fn code(bytes: usize, next: u8, next_high: u8, kind: u8, room: usize, expected: i64) {
-    let mut file = [0u8; 65_568];
-    let mut out = [0u8; 65_537];
-    file[0] = next;
-    file[1] = next_high;
-    file[4] = kind;
-    file[65_476] = 3;
-    if bytes > 65_568 {
-        return;
-    }
-    if room > 65_537 {
-        return;
-    }
-    yes_or_no(c_pass_file::hornetpewter_list(&file[0..bytes], &mut out[0..room]) == expected);
-}
-
-fn lengths() {
-    text(b"whether C's code is the expected one: 0, 47, 48, 49 bytes:");
-    code(0, 0, 0, 3, 65_536, -10);
-    code(47, 0, 0, 3, 65_536, -10);
-    code(48, 0, 0, 3, 65_536, 32);
-    code(49, 0, 0, 3, 65_536, -10);
-    text(b"\n1,365 records less a byte, 1,365, a byte more, 1,366:");
-    code(65_519, 0, 0, 3, 65_536, -10);
-    code(65_520, 0, 0, 3, 65_536, 32);
-    code(65_521, 0, 0, 3, 65_536, -10);
-    code(65_568, 0, 0, 3, 65_536, -10);
-    text(b"\nnext 1,365 of 1,364 records, of 1,365; next 1,366:");
-    code(65_472, 0x55, 5, 3, 65_536, -12);
-    code(65_520, 0x55, 5, 3, 65_536, 67);
-    code(65_520, 0x56, 5, 3, 65_536, -12);
-    text(b"\n");
-}
-
-fn refusals() {
-    text(b"kind 0, 4; next 1; output of 65,535 bytes, 65,536, 65,537:");
-    code(48, 0, 0, 0, 65_536, -11);
-    code(48, 0, 0, 4, 65_536, -11);
-    code(48, 1, 0, 3, 65_536, -12);
-    code(48, 0, 0, 3, 65_535, -13);
-    code(48, 0, 0, 3, 65_536, 32);
-    code(48, 0, 0, 3, 65_537, 32);
-    text(b"\n10 and 11, 10 and 12, 10 and 13; 11 and 12, 11 and 13; 12 and 13:");
-    code(49, 0, 0, 4, 65_536, -10);
-    code(49, 1, 0, 3, 65_536, -10);
-    code(49, 0, 0, 3, 65_535, -10);
-    code(48, 1, 0, 4, 65_536, -11);
-    code(48, 0, 0, 4, 65_535, -11);
-    code(48, 1, 0, 3, 65_535, -12);
-    text(b"\n");
 }
 
 // ---- C's calls on a lent link
@@ -591,8 +537,6 @@ fn quantities() {
 }
 
 fn main() {
-    lengths();
-    refusals();
     openings();
     reports();
     timeouts();

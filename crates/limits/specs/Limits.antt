@@ -1,4 +1,4 @@
--- Document 01's limits as one table, each as document 01 writes it beside what stands for it in the definitions, and one theorem over its rows: they are equal.
+-- Document 01's limits, and document 02's that are in force, as one table, each as the document writes it beside what stands for it in the definitions, and one theorem over its rows: they are equal.
 use Prim.Native.Nat.{ℕ, _+_, _-_, _*_, _^_, _<_}
 use mathlib.Core.Path.{_≡_}
 use mathlib.Core.Bool.{Bool, true, not, _&&_}
@@ -33,9 +33,8 @@ use Rattle.link_state.specs.State.{mostNs, mostElapsed, mostOveruse, mostTime, 
 use Rattle.link.specs.Link as L
 use Rattle.link.specs.Link.{reportQuestions, timeoutQuestions}
 use Rattle.pass_records.specs.PassRecords as Records
-use Rattle.pass_records.specs.PassRecords.{recordBytes, mostRecords, recordCount, wellFormed}
-use Rattle.pass_file.specs.PassFile as PassFile
-use Rattle.pass_file.specs.PassFile.{first, leastOutput}
+use Rattle.pass_records.specs.PassRecords.{recordBytes, mostRecords, lengthIn, leastOutput, outputPerRecord, wellFormed}
+use Rattle.pass_file.specs.PassFile.{first}
 
 -- ---- what stands for a limit
 pub data Stands : Type 0 where
@@ -94,7 +93,11 @@ abbrev pub report : Report → ℕ
 report r = Q.firstNo (reportQuestions first r)
 
 abbrev pub file : List ℕ → ℕ → ℕ
-file records room = PassFile.firstNo records room
+file records output = Records.number (Records.judge mostRecords records output)
+
+-- a file of so many records, of which the first is a timeout
+abbrev pub records : ℕ → List ℕ
+records n = bytes 0 3 0 ++ replicate ((n - 1) * 48) 0
 
 unfoldable pub rows : List Row
 rows =
@@ -154,20 +157,27 @@ rows =
     -- question 8: "from 0 to 10^14": as above
     -- question 9: "at or below 2,147,483,647"
     ∷ row 2147483647 (number mostSum)
-    -- question 10: "48 times 1 to 1,365"
-    ∷ row 1 (from (λ n. ltb 0 (recordCount (replicate (48 * n) 0))))
-    ∷ row 1365 (number mostRecords)
+    -- question 10, order 1: "up to 65,535"
+    ∷ row 1 (from (λ n. lengthIn mostRecords (48 * n)))
+    ∷ row 65535 (upTo (λ n. lengthIn mostRecords (48 * n)))
+    ∷ row 65535 (number mostRecords)
     -- question 11: "kind 1 to 3"
     ∷ row 1 (from (λ kind. wellFormed (bytes 0 kind 0)))
     ∷ row 3 (upTo (λ kind. wellFormed (bytes 0 kind 0)))
-    -- question 13: "at least 65,536 bytes"
-    ∷ row 65536 (number leastOutput)
+    -- question 13: "at least 65,536 bytes"; order 1: "48 bytes of output per record when a file has more than 1,365"
+    ∷ row 65536 (number (leastOutput 1))
+    ∷ row 65536 (number (leastOutput 1365))
+    ∷ row 1365 (upTo (λ n. eqb (leastOutput n) 65536))
+    ∷ row 48 (number outputPerRecord)
+    ∷ row (1366 * 48) (number (leastOutput 1366))
+    ∷ row (65535 * 48) (number (leastOutput 65535))
     -- the numbers of the questions: 0 at the limits, and each just past one. (1,024 packets by questions 4 to 8: to put them in order takes too long here.)
     ∷ row 0 (number (opening 40000 (ms 1)))
     ∷ row 0 (number (opening (10 ^ 10) (ms 10000)))
     ∷ row 0 (number (report (packets 1 2147483647 (10 ^ 18) (Rate.Some (bps (10 ^ 14))) (10 ^ 18))))
     ∷ row 0 (number (Q.firstNo (ofReport (packets 1024 1 (10 ^ 18) Rate.None 0))))
-    ∷ row 0 (number (file (bytes 0 3 0 ++ replicate (1364 * 48) 0) 65536))
+    ∷ row 0 (number (file (records 1365) 65536))
+    ∷ row 0 (number (file (records 1366) 65568))
     ∷ row 1 (number (Q.firstNo (timeoutQuestions (L.new (bps 39999) (ms 500) (ms 150)) 0)))
     ∷ row 2 (number (opening 39999 (ms 1)))
     ∷ row 2 (number (opening (10 ^ 10 + 1) (ms 1)))
@@ -182,12 +192,14 @@ rows =
     ∷ row 8 (number (report (packets 1 1 0 (Rate.Some (bps (10 ^ 14 + 1))) 0)))
     ∷ row 9 (number (report (packets 1 2147483648 0 Rate.None 0)))
     ∷ row 10 (number (file [] 65536))
-    ∷ row 10 (number (file (replicate (1366 * 48) 0) 65536))
+    ∷ row 10 (number (Records.number (Records.judge 1365 (records 1366) 65568)))
     ∷ row 11 (number (file (bytes 0 4 0) 65536))
     ∷ row 11 (number (file (bytes 0 2 2) 65536))
     ∷ row 12 (number (file (bytes 1 3 0) 65536))
     ∷ row 12 (number (file (bytes 2 3 0) 65536))
-    ∷ row 13 (number (file (bytes 0 3 0) 65535))
+    ∷ row 13 (number (file (records 1) 65535))
+    ∷ row 13 (number (file (records 1365) 65535))
+    ∷ row 13 (number (file (records 1366) 65567))
     ∷ []
 
 -- ---- the theorem
@@ -219,7 +231,7 @@ rowEqual r = equal (r .numerator) (r .denominator) (r .stands)
 
 -- what a row computes through
 unfoldable steps : Bool
-unfolding rows every equal toBits helpers sqrt Control.new wellFormed recordCount Q.firstNo ofOpening Q.windowIn reportQuestions timeoutQuestions ofReport ofTimeout Q.listsIn Q.instantsIn Q.momentIn Q.probeIn Q.every State.inRange State.ackedIn State.controlIn State.groupsIn State.trendlineIn State.historyIn State.delaysIn State.overuseIn State.rateControlIn State.averageIn State.sumIn State.ascends State.allWithin receiveOrder entries L.sumsIn Acked.update Acked.filled Acked.withPacket Acked.withSample Acked.sample Acked.advance Acked.windowLength Time.saturatingAdd B.saturated PassFile.firstNo Records.judge Records.judgeAlong Records.chainFrom Records.steps Records.recordAt Records.successor le
+unfolding rows every equal toBits helpers sqrt Control.new wellFormed lengthIn leastOutput Q.firstNo ofOpening Q.windowIn reportQuestions timeoutQuestions ofReport ofTimeout Q.listsIn Q.instantsIn Q.momentIn Q.probeIn Q.every State.inRange State.ackedIn State.controlIn State.groupsIn State.trendlineIn State.historyIn State.delaysIn State.overuseIn State.rateControlIn State.averageIn State.sumIn State.ascends State.allWithin receiveOrder entries L.sumsIn Acked.update Acked.filled Acked.withPacket Acked.withSample Acked.sample Acked.advance Acked.windowLength Time.saturatingAdd B.saturated Records.judge Records.judgeAlong Records.chainFrom Records.steps Records.recordAt Records.successor le
 steps = true
 
 computed : T (every rowEqual rows)

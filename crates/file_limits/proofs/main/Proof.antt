@@ -1,0 +1,18 @@
+-- `file_limits::main` lends two arrays as slices: each is as long as it was made, which a lemma says without computing it.
+use Prim.Native.Nat.{ℕ}
+use mathlib.Core.Path.{sym}
+use lib.ListN.{length-replicate}
+use borrow.Author.Needs.{needs}
+use Rattle.file_limits.proofs.main.Statement.{statement}
+use Rattle.file_limits.proofs.main.Tie as tie
+
+slice-aggregate-replay : tie.Need-slice-aggregate-replay
+slice-aggregate-replay c = sym (length-replicate {0} {A = ℕ} 3145776 0)
+
+slice-aggregate-replay-2 : tie.Need-slice-aggregate-replay-2
+slice-aggregate-replay-2 c = sym (length-replicate {0} {A = ℕ} 3145776 0)
+
+pub main-spec : {M : Type 1} → statement M
+main-spec =
+    tie.close
+    (tie.spec slice-aggregate-replay slice-aggregate-replay-2 (λ c κs. search needs) (λ c. search needs) (λ c κs. search needs) (λ c κs. search needs) (λ c. search needs))
