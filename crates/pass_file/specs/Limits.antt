@@ -3,8 +3,9 @@
 use Prim.Native.Nat.{ℕ, _≤_}
 use mathlib.Core.Path.{_≡_, refl}
 use mathlib.Core.List.{List}
+use native.Mathlib.Omega.{arith}
 use lib.ListN.{length}
-use Rattle.pass_records.specs.PassRecords.{beginning, recordCount}
+use Rattle.pass_records.specs.PassRecords.{beginning, mostRecords, mostShort, recordCount}
 use Rattle.pass_records.specs.Laws.{beginning-by, judge-either}
 use Rattle.pass_file.specs.PassFile.{list, output}
 
@@ -20,6 +21,10 @@ same-under small large file h i = record {
   answers = λ room. rw (judge-either small large file room h i);
   outputs = λ out. rw (judge-either small large file (length out) h i);
 }
+
+-- order 1: a file of up to 1,365 records, the most that there were before it, gets what it got
+pub as-before : (file : List ℕ) → recordCount file ≤ mostShort → SameUnder mostShort mostRecords file
+as-before file h = same-under mostShort mostRecords file h (omega arith)
 
 -- the answer to a file and the output after it are those of its beginning
 pub record SameFrom (most : ℕ) (file : List ℕ) : Type 0 where
