@@ -197,18 +197,20 @@ list-listed most file output n e =
     record { linked = number-linked (judge most file output) (l .0); whole = l .1 }
 
 -- a listing that is answered has room in 48 bytes a record of the file, and in the output
-pub record ShortListing (file : List ℕ) (output n : ℕ) : Type 0 where
+pub record ShortListing (most : ℕ) (file : List ℕ) (output n : ℕ) : Type 0 where
   pub a-record : n ≤ 48 * recordCount file
+  pub at-most : n ≤ 48 * most
   pub within : n ≤ output
   -- which are 65,520 bytes at most where the file has up to 1,365 records
   pub a-short-file : recordCount file ≤ mostShort → n ≤ 65520
 
-pub list-short : (most : ℕ) (file : List ℕ) (output n : ℕ) → most ≤ mostRecords → list most file output ≡ listed n → ShortListing file output n
+pub list-short : (most : ℕ) (file : List ℕ) (output n : ℕ) → most ≤ mostRecords → list most file output ≡ listed n → ShortListing most file output n
 list-short most file output n m e =
     let l = list-listed most file output n e in
     let r = listing-of-run most m file output (l .linked) in
     record {
       a-record = omega (arith, r .short, l .whole);
+      at-most = omega (arith, r .short, l .whole, linked-file most file output (l .linked) .counted .few);
       within = omega (arith, listing-fits most m file output (l .linked), l .whole);
       a-short-file = λ h. omega (arith, r .short, l .whole);
     }

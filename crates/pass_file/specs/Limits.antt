@@ -22,7 +22,7 @@ same-under small large file h i = record {
   outputs = λ out. rw (judge-either small large file (length out) h i);
 }
 
--- order 1: a file of up to 1,365 records, the most that there were before it, gets what it got
+-- order 1: a file of up to 1,365 records, the most that there were before it, gets what it got (of its output question 13 asks what it asked: `judge-short`)
 pub as-before : (file : List ℕ) → recordCount file ≤ mostShort → SameUnder mostShort mostRecords file
 as-before file h = same-under mostShort mostRecords file h (omega arith)
 

@@ -5,7 +5,7 @@ use mathlib.Core.List.{List, [], _∷_, List·Memᴰ, List·Memᴰ·head, List·
 use lib.ListN.{length}
 use Rattle.pass_records.specs.declared.Following.{Following}
 use Rattle.pass_records.specs.declared.Following.the-variants.{Next, End, BadKind, BadNext}
-use Rattle.pass_records.specs.PassRecords.{recordCount, recordAt, successor, onward, steps, chainFrom, chain, judgeAlong, lengthIn, judge}
+use Rattle.pass_records.specs.PassRecords.{recordCount, recordAt, successor, onward, steps, chainFrom, chain, judgeAlong, judge}
 
 module _ (f g : List ℕ) where
   -- the same records at these numbers

@@ -324,6 +324,12 @@ module _ (most : ℕ) (file : List ℕ) (output : ℕ) where
   judge-refused h = rw h
 
 -- ---- limits
+-- up to 1,365 records question 13 asks for 65,536 bytes
+pub judge-short : (most : ℕ) (file : List ℕ) (output : ℕ) → recordCount file ≤ mostShort
+    → judge most file output ≡ cond (lengthIn most (length file)) (judgeOutput (judgeAlong file (recordCount file) (chain file)) (leb 65536 output)) J.BadLength
+unfolding judge
+judge-short most file output h = rw (least-short (recordCount file) h)
+
 -- a file of up to the smaller of two limits is judged alike under both
 pub judge-either : (small large : ℕ) (file : List ℕ) (output : ℕ) → recordCount file ≤ small → small ≤ large → judge large file output ≡ judge small file output
 unfolding judge

@@ -8,7 +8,7 @@ pub const RECORD_BYTES: usize = 48;
 // The most records that a file may have.
 pub const MOST_RECORDS: u16 = 65_535;
 
-// The output that a file of up to so many records wants, and that a longer one wants for each record.
+// Question 13: up to MOST_SHORT records a file wants SHORT_FILE_OUTPUT bytes of output, and a longer one OUTPUT_PER_RECORD for each record.
 const MOST_SHORT: usize = 1_365;
 
 const SHORT_FILE_OUTPUT: usize = 65_536;

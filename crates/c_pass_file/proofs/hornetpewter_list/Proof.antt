@@ -8,9 +8,8 @@ use mir.Val.{toZ}
 use mir.Syntax.{w64}
 use borrow.Author.Needs.{needs}
 use Rattle.pass_records.specs.PassRecords.{mostRecords}
-use Rattle.pass_records.specs.Laws.{linked-file}
-use Rattle.pass_file.specs.PassFile.{Answer, answer, list, listed}
-use Rattle.pass_file.specs.Laws.{list-listed, list-short}
+use Rattle.pass_file.specs.PassFile.{Answer, answer, list}
+use Rattle.pass_file.specs.Laws.{list-short}
 use Rattle.pass_file.specs.declared.Listed.{Listed}
 use Rattle.pass_file.specs.declared.Listed.the-variants.{Listing}
 use Rattle.c_pass_file.specs.CPassFile.{code}
@@ -23,9 +22,7 @@ answered told e = cc
 -- of a listing's arm
 module _ (file : List ℕ) (room : ℕ) {r : Listed} {n : ℕ} (told : answer r ≡ list mostRecords file room) (e : r ≡ Listing n) where
   bytes-most : n ≤ 48 * mostRecords
-  bytes-most =
-      let l : list mostRecords file room ≡ listed n = cc in
-      omega (arith, list-short mostRecords file room n (omega arith) l .a-record, linked-file mostRecords file room (list-listed mostRecords file room n l .linked) .counted .few)
+  bytes-most = list-short mostRecords file room n (omega arith) (cc) .at-most
 
   bytes-answered : toZ w64 n ≡ code (list mostRecords file room)
   bytes-answered = toZ-pos w64 {n = n} (omega (arith, bytes-most)) ∙ answered told e
