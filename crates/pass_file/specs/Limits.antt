@@ -1,12 +1,11 @@
--- The most records that a file may have is question 10's alone: under two limits a file within both has one answer and one output, and of a longer file the beginning, one
--- record more than the limit, has the answer and the output of the whole.
+-- The most records that a file may have is question 10's alone: under two limits a file within both has one answer and one output.
 use Prim.Native.Nat.{ℕ, _≤_}
-use mathlib.Core.Path.{_≡_, refl}
+use mathlib.Core.Path.{_≡_}
 use mathlib.Core.List.{List}
 use native.Mathlib.Omega.{arith}
 use lib.ListN.{length}
-use Rattle.pass_records.specs.PassRecords.{beginning, mostRecords, mostShort, recordCount}
-use Rattle.pass_records.specs.Laws.{beginning-by, judge-either}
+use Rattle.pass_records.specs.PassRecords.{mostRecords, mostShort, recordCount}
+use Rattle.pass_records.specs.Laws.{judge-either}
 use Rattle.pass_file.specs.PassFile.{list, output}
 
 -- the answer to a file and the output after it are the same under two limits
@@ -25,15 +24,3 @@ same-under small large file h i = record {
 -- order 1: a file of up to 1,365 records, the most that there were before it, gets what it got (of its output question 13 asks what it asked: `judge-short`)
 pub as-before : (file : List ℕ) → recordCount file ≤ mostShort → SameUnder mostShort mostRecords file
 as-before file h = same-under mostShort mostRecords file h (omega arith)
-
--- the answer to a file and the output after it are those of its beginning
-pub record SameFrom (most : ℕ) (file : List ℕ) : Type 0 where
-  pub answers : (room : ℕ) → list most (beginning most file) room ≡ list most file room
-  pub outputs : (out : List ℕ) → output most (beginning most file) out ≡ output most file out
-
-pub same-from : (most : ℕ) (file : List ℕ) → SameFrom most file
-unfolding list output
-same-from most file = record {
-  answers = λ room. beginning-by (λ f g. list most f room ≡ list most g room) most file (λ f. refl) (λ f g p q. rw (p room, q room));
-  outputs = λ out. beginning-by (λ f g. output most f out ≡ output most g out) most file (λ f. refl) (λ f g p q. rw (p (length out), q (length out)));
-}

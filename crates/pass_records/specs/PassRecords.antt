@@ -1,5 +1,5 @@
 -- The records of a pass file, 48 bytes each and numbered from 1, the chain that links them, and questions 10 to 13. What lies past a record's end counts as 0.
-use Prim.Native.Nat.{ℕ, zero, suc, _+_, _*_, _-_, _/_, _%_}
+use Prim.Native.Nat.{ℕ, zero, suc, _*_, _-_, _/_, _%_}
 use mathlib.Core.Bool.{Bool, _&&_, cond}
 use mathlib.Core.List.{List, [], _∷_}
 use lib.Dec.{eqb, ltb, leb}

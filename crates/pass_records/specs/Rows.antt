@@ -6,7 +6,6 @@ use mathlib.Core.List.{List, [], _∷_, _++_}
 use Rattle.le_bytes.specs.LeBytes.{le}
 use Rattle.pass_records.specs.declared.Judged.the-variants as J
 use Rattle.pass_records.specs.PassRecords.{
-  recordBytes,
   mostRecords,
   recordCount,
   probeBits,

@@ -4,7 +4,7 @@ use mathlib.Core.Path.{_≡_, refl, sym, ap, _∙_}
 use mathlib.Core.List.{List, _++_}
 use native.Mathlib.Omega.{arith}
 use lib.ListN.{length, drop}
-use lib.Seq.{sets, sets-eq}
+use lib.Seq.{sets-eq}
 use Rattle.pass_records.specs.PassRecords.{judge, number, recordCount}
 use Rattle.pass_records.specs.Laws.{judge-enough, least-short}
 use Rattle.pass_records.specs.declared.Judged.{Judged}
@@ -29,7 +29,7 @@ firstNo file = number (judge mostRecords file outputBytes)
 first-same : (file : List ℕ) (room : ℕ) → outputBytes ≤ room → number (judge mostRecords file room) ≡ firstNo file
 first-same file room h =
     ap number
-    (judge-enough mostRecords file room outputBytes (λ few. let least = least-short (recordCount file) few in (omega arith, omega arith)))
+    (judge-enough mostRecords file room outputBytes (λ few. let least = least-short (recordCount file) (omega arith) in (omega arith, omega arith)))
 
 answer-number : (n : ℕ) (text : List ℕ) → answerNumber (answerUnless n text) ≡ n
 answer-number zero text = refl

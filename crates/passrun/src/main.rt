@@ -1,5 +1,4 @@
 // Document 01's program: reads one pass file from standard input and prints its listing, or the number of the question that it fails.
-ghost use mathlib.Core.Path.{_≡_};
 ghost use Prim.Native.Nat.{_≤_};
 ghost use lib.ListN.{length};
 ghost use Rattle.listing_line.specs.ListingLine.{Wrote};

@@ -2,10 +2,9 @@
 use Prim.Native.Nat.{ℕ, _*_, _≤_}
 use mathlib.Core.Path.{_≡_, refl, _∙_}
 use mathlib.Core.Bool.{Bool, true, false}
-use lib.IntN.{ℤ, pos, negℤ}
+use lib.IntN.{pos, negℤ}
 use native.Mathlib.Omega.{arith}
 use mir.Facts.{toZ-pos}
-use mir.Val.{toZ}
 use mir.Syntax.{w64}
 use borrow.Author.Needs.{needs}
 use Rattle.pass_records.specs.PassRecords as Records

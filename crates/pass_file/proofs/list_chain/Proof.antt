@@ -1,8 +1,8 @@
 -- `pass_file::list_chain` meets its contract. The loop's invariant: record k is on the linked chain, the lines from it on are left to write,
 -- the five lists keep the packets that wait, and the link is good, so that it is in range for the next call.
-use Prim.Native.Nat.{ℕ, _-_, _≤_}
-use mathlib.Core.Path.{_≡_, refl, sym, ap, subst, _∙_}
-use mathlib.Core.List.{List, [], _∷_}
+use Prim.Native.Nat.{ℕ, _-_}
+use mathlib.Core.Path.{_≡_, sym, ap, subst, _∙_}
+use mathlib.Core.List.{List, []}
 use mathlib.Core.Bool.{cond}
 use native.Mathlib.Omega.{arith}
 use lib.Dec.{eqb}
