@@ -1,0 +1,131 @@
+// A packet status chunk of a feedback message: 16 bits that stand for a list of status symbols.
+ghost use mathlib.Core.Path.{_≡_};
+ghost use Prim.Native.Nat.{_<_, _≤_, min};
+ghost use lib.ListN.{take};
+ghost use Rattle.status_chunk.specs.Chunk as Chunk;
+
+// From here on the top bit is 1: a status vector.
+const STATUS_VECTOR: u16 = 0x8000;
+
+// From here on the two top bits are 1: a status vector of two-bit symbols.
+const TWO_BIT_VECTOR: u16 = 0xc000;
+
+pub const RESERVED: u16 = 3;
+
+// How many symbols a chunk has.
+pub fn symbol_count(chunk: u16) -> u16
+    ensures { λ r. ⌜ r ≡ Chunk.symbolCount chunk ⌝ }
+{
+    if chunk < STATUS_VECTOR {
+        return chunk % 8192;
+    }
+    if chunk < TWO_BIT_VECTOR {
+        return 14;
+    }
+    7
+}
+
+// Symbol i of a chunk. Past the last one it is the low bits of a vector.
+pub fn symbol(chunk: u16, i: u16) -> u16
+    ensures { λ r. ⌜ r ≡ Chunk.symbol chunk i ⌝ }
+{
+    if chunk < STATUS_VECTOR {
+        return chunk / 8192;
+    }
+    if chunk < TWO_BIT_VECTOR {
+        return one_bit(chunk, i);
+    }
+    two_bit(chunk, i)
+}
+
+fn one_bit(chunk: u16, i: u16) -> u16
+    ensures { λ r. ⌜ r ≡ Chunk.oneBit chunk i ⌝ }
+{
+    if i < 13 {
+        return (chunk >> (13 - i)) % 2;
+    }
+    chunk % 2
+}
+
+fn two_bit(chunk: u16, i: u16) -> u16
+    ensures { λ r. ⌜ r ≡ Chunk.twoBit chunk i ⌝ }
+{
+    if i < 6 {
+        return (chunk >> (12 - 2 * i)) % 4;
+    }
+    chunk % 4
+}
+
+// How many of n statuses a chunk covers.
+pub fn covered(chunk: u16, n: u16) -> u16
+    ensures { λ r. ⌜ r ≡ min (Chunk.symbolCount chunk) n ⌝ }
+{
+    let all = symbol_count(chunk);
+    if all < n {
+        return all;
+    }
+    n
+}
+
+// How many bytes the recv deltas of a chunk's first n symbols have.
+pub fn delta_bytes(chunk: u16, n: u16) -> usize
+    ensures { λ r. ⌜ r ≡ Chunk.deltaBytes (take n (Chunk.symbolsOf chunk)) ⌝ }
+{
+    let all = covered(chunk, n);
+    if chunk < STATUS_VECTOR {
+        return all as usize * (chunk / 8192) as usize;
+    }
+    if chunk < TWO_BIT_VECTOR {
+        return ones(chunk, all);
+    }
+    two_bit_bytes(chunk, all)
+}
+
+// The same of a vector of one-bit symbols.
+fn ones(chunk: u16, n: u16) -> usize
+    requires { ⌜ (Chunk.statusVector ≤ chunk) × ((chunk < Chunk.twoBitVector) × (n ≤ 14)) ⌝ }
+    ensures { λ r. ⌜ r ≡ Chunk.deltaBytes (Chunk.symbolsFrom chunk 0 n) ⌝ }
+{
+    u16::count_ones(chunk % 16384 >> (14 - n)) as usize
+}
+
+// The same of a vector of two-bit symbols.
+fn two_bit_bytes(chunk: u16, n: u16) -> usize
+    ensures { λ r. ⌜ r ≡ Chunk.deltaBytes (Chunk.symbolsFrom chunk 0 n) ⌝ }
+{
+    let mut bytes: usize = 0;
+    let mut i: u16 = 0;
+    while i < n {
+        bytes += symbol(chunk, i) as usize;
+        i += 1;
+    }
+    bytes
+}
+
+// Whether one of a chunk's first n symbols is reserved.
+pub fn any_reserved(chunk: u16, n: u16) -> bool
+    ensures { λ r. ⌜ r ≡ Chunk.anyReserved (take n (Chunk.symbolsOf chunk)) ⌝ }
+{
+    let all = covered(chunk, n);
+    if chunk < STATUS_VECTOR {
+        return (0 < all) & (chunk / 8192 == RESERVED);
+    }
+    if chunk < TWO_BIT_VECTOR {
+        return false;
+    }
+    two_bit_reserved(chunk, all)
+}
+
+// The same of a vector of two-bit symbols.
+fn two_bit_reserved(chunk: u16, n: u16) -> bool
+    ensures { λ r. ⌜ r ≡ Chunk.anyReserved (Chunk.symbolsFrom chunk 0 n) ⌝ }
+{
+    let mut i: u16 = 0;
+    while i < n {
+        if symbol(chunk, i) == RESERVED {
+            return true;
+        }
+        i += 1;
+    }
+    false
+}
