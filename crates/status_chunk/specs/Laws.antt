@@ -73,8 +73,12 @@ take-split chunk i (suc k) (suc n) after =
 pub take-from : (chunk i k n : ℕ) → take n (symbolsFrom chunk i k) ≡ symbolsFrom chunk i (min k n)
 take-from chunk i k n = rw append-nil at (take-split chunk i k n []) ∙ rw (take-nil (n - min k n), append-nil)
 
+-- those of n statuses that a chunk covers
 pub take-symbols : (chunk n : ℕ) → take n (symbolsOf chunk) ≡ symbolsFrom chunk 0 (min (symbolCount chunk) n)
 take-symbols chunk n = take-from chunk 0 (symbolCount chunk) n
+
+pub take-length : (chunk n : ℕ) → length (take n (symbolsOf chunk)) ≡ min (symbolCount chunk) n
+take-length chunk n = rw (take-symbols chunk n) (symbols-length chunk 0 (min (symbolCount chunk) n))
 
 -- ---- lists of symbols
 pub any-append : (a b : List ℕ) → anyReserved (a ++ b) ≡ anyReserved a || anyReserved b
@@ -100,6 +104,9 @@ pub delta-bytes-most : (chunk i n : ℕ) → chunk < 2 ^ 16 → deltaBytes (symb
 unfolding deltaBytes symbolsFrom
 delta-bytes-most chunk i zero h = omega arith
 delta-bytes-most chunk i (suc n) h = omega (arith, symbol-small chunk i h, delta-bytes-most chunk (suc i) n h)
+
+pub take-bytes-most : (chunk n : ℕ) → chunk < 2 ^ 16 → deltaBytes (take n (symbolsOf chunk)) ≤ 3 * min (symbolCount chunk) n
+take-bytes-most chunk n h = rw (take-symbols chunk n) (delta-bytes-most chunk 0 (min (symbolCount chunk) n) h)
 
 -- ---- a reserved one among them
 pub reserved-met : (chunk i n : ℕ) (whole : Bool) → i < n → symbol chunk i ≡ reserved → anyReserved (symbolsFrom chunk i (n - i)) ≡ whole → true ≡ whole

@@ -1,0 +1,4 @@
+pub mod Feedback
+pub mod Numbers
+pub mod Chunks
+pub mod Judging
