@@ -10,6 +10,8 @@
 //!     oracle case ROOM                  the same of the pass file on standard input, with an output of ROOM bytes; ROOM may be enough
 //!     oracle lent SEED CALLS            calls on lent links with the Rust's answers and its state after each, to standard output
 //!     oracle lent_paths SEED CALLS      how often those calls take which path
+//!     oracle feedback SEED COUNT        feedback messages with document 02's answers, to standard output; the Rust's are held to a model of where it parts from them
+//!     oracle feedback_counts SEED COUNT how often those messages get which answer, and which part of the Rust's changes it
 //!     oracle limits KIND                cases at each limit and beside it; KIND is modules, links, passes (pass files) or files (their lengths and outputs)
 //!     oracle list                       as passrun: the listing of the pass file on standard input, or the number of the question that it fails
 //!
@@ -20,6 +22,10 @@ macro_rules! log_stat {
 }
 
 macro_rules! trace {
+    ($($arg:tt)*) => {};
+}
+
+macro_rules! warn {
     ($($arg:tt)*) => {};
 }
 
@@ -38,7 +44,39 @@ mod rtp_ {
 
     #[derive(Debug, Clone, Copy, PartialEq, Eq, PartialOrd, Ord)]
     pub struct TwccSeq(pub u64);
+
+    impl TwccSeq {
+        pub fn inc(&mut self) -> TwccSeq {
+            self.0 += 1;
+            TwccSeq(self.0 - 1)
+        }
+    }
+
+    impl From<u64> for TwccSeq {
+        fn from(v: u64) -> Self {
+            TwccSeq(v)
+        }
+    }
+
+    impl std::fmt::Display for TwccSeq {
+        fn fmt(&self, f: &mut std::fmt::Formatter<'_>) -> std::fmt::Result {
+            self.0.fmt(f)
+        }
+    }
+
+    impl std::ops::Deref for TwccSeq {
+        type Target = u64;
+
+        fn deref(&self) -> &u64 {
+            &self.0
+        }
+    }
+
+    #[derive(Debug, Clone, Copy, PartialEq, Eq)]
+    pub struct TwccClusterId(pub u64);
 }
+
+mod rtcp;
 
 mod average;
 
@@ -88,6 +126,10 @@ mod bwe {
 mod bench;
 mod demand3;
 mod distance;
+mod feedback;
+#[cfg(bench)]
+mod feedback_bench;
+mod feedback_make;
 mod lent;
 mod lent_make;
 mod lent_state;
@@ -108,6 +150,8 @@ fn main() {
         Some("entries") if words.len() == 2 => distance::entries(),
         Some("lent") if words.len() == 4 => lent::make(words[2].parse().unwrap(), words[3].parse().unwrap()),
         Some("lent_paths") if words.len() == 4 => lent::paths(words[2].parse().unwrap(), words[3].parse().unwrap()),
+        Some("feedback") if words.len() == 4 => feedback::make(words[2].parse().unwrap(), words[3].parse().unwrap()),
+        Some("feedback_counts") if words.len() == 4 => feedback::counts(words[2].parse().unwrap(), words[3].parse().unwrap()),
         Some("list") if words.len() == 2 => pass_files::list(),
         Some("passes") if words.len() == 5 => pass_files::make(words[2].parse().unwrap(), words[3].parse().unwrap(), &words[4]),
         Some("case") if words.len() == 3 => pass_files::case(&words[2]),
@@ -123,9 +167,11 @@ fn main() {
         #[cfg(bench)]
         Some("times") if words.len() == 3 => bench::times(words[2].parse().unwrap()),
         #[cfg(bench)]
+        Some("feedback_times") if words.len() == 3 => feedback_bench::times(words[2].parse().unwrap()),
+        #[cfg(bench)]
         Some("turns") if words.len() == 5 => bench::turns(&words[2], &words[3], words[4].parse().unwrap()),
         _ => {
-            eprintln!("usage: oracle make MODULE SEED COUNT | distance A B | listings A B | demand3 SEED COUNT | zero_sizes SIZE | entries | passes SEED COUNT SIZE | case ROOM | limits KIND | lent SEED CALLS | lent_paths SEED CALLS | list");
+            eprintln!("usage: oracle make MODULE SEED COUNT | distance A B | listings A B | demand3 SEED COUNT | zero_sizes SIZE | entries | passes SEED COUNT SIZE | case ROOM | feedback SEED COUNT | feedback_counts SEED COUNT | limits KIND | lent SEED CALLS | lent_paths SEED CALLS | list");
             std::process::exit(2);
         }
     }
