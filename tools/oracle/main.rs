@@ -12,7 +12,9 @@
 //!     oracle lent_paths SEED CALLS      how often those calls take which path
 //!     oracle feedback SEED COUNT        feedback messages with document 02's answers, to standard output; the Rust's are held to a model of where it parts from them
 //!     oracle feedback_counts SEED COUNT how often those messages get which answer, and which part of the Rust's changes it
-//!     oracle limits KIND                cases at each limit and beside it; KIND is modules, links, passes (pass files) or files (their lengths and outputs)
+//!     oracle feedback_real              the messages of samples/feedback.jsonl on standard input with the file's own readings, to standard output
+//!     oracle feedback_differences       where the Rust's reading parts from document 02's, as rows of a table
+//!     oracle limits KIND                cases at each limit and beside it; KIND is modules, links, passes (pass files), files (their lengths and outputs) or feedback (messages)
 //!     oracle list                       as passrun: the listing of the pass file on standard input, or the number of the question that it fails
 //!
 //! A case is 12 words of 8 bytes, little-endian: an operation, 5 inputs, 6 answers. drive.rs has the operations, make.rs the cases.
@@ -129,7 +131,9 @@ mod distance;
 mod feedback;
 #[cfg(bench)]
 mod feedback_bench;
+mod feedback_limits;
 mod feedback_make;
+mod feedback_real;
 mod lent;
 mod lent_make;
 mod lent_state;
@@ -152,6 +156,8 @@ fn main() {
         Some("lent_paths") if words.len() == 4 => lent::paths(words[2].parse().unwrap(), words[3].parse().unwrap()),
         Some("feedback") if words.len() == 4 => feedback::make(words[2].parse().unwrap(), words[3].parse().unwrap()),
         Some("feedback_counts") if words.len() == 4 => feedback::counts(words[2].parse().unwrap(), words[3].parse().unwrap()),
+        Some("feedback_real") if words.len() == 2 => feedback_real::real(),
+        Some("feedback_differences") if words.len() == 2 => feedback_real::differences(),
         Some("list") if words.len() == 2 => pass_files::list(),
         Some("passes") if words.len() == 5 => pass_files::make(words[2].parse().unwrap(), words[3].parse().unwrap(), &words[4]),
         Some("case") if words.len() == 3 => pass_files::case(&words[2]),
@@ -160,6 +166,7 @@ fn main() {
             "links" => limits_calls::links(),
             "passes" => limits_calls::passes(),
             "files" => limits_calls::lengths(),
+            "feedback" => feedback_limits::feedback(),
             _ => panic!("no such kind"),
         },
         #[cfg(bench)]
@@ -171,7 +178,7 @@ fn main() {
         #[cfg(bench)]
         Some("turns") if words.len() == 5 => bench::turns(&words[2], &words[3], words[4].parse().unwrap()),
         _ => {
-            eprintln!("usage: oracle make MODULE SEED COUNT | distance A B | listings A B | demand3 SEED COUNT | zero_sizes SIZE | entries | passes SEED COUNT SIZE | case ROOM | feedback SEED COUNT | feedback_counts SEED COUNT | limits KIND | lent SEED CALLS | lent_paths SEED CALLS | list");
+            eprintln!("usage: oracle make MODULE SEED COUNT | distance A B | listings A B | demand3 SEED COUNT | zero_sizes SIZE | entries | passes SEED COUNT SIZE | case ROOM | feedback SEED COUNT | feedback_counts SEED COUNT | feedback_real | feedback_differences | limits KIND | lent SEED CALLS | lent_paths SEED CALLS | list");
             std::process::exit(2);
         }
     }
