@@ -1,4 +1,5 @@
 //! Times the proved library's reading of feedback messages beside the Rust's, from one driver, on the same messages (tools/bench). Both must tell the same packets.
+use crate::bench::least;
 use crate::feedback::{self, time_zero, Answer, Header, Packet, Parts, EXTEND_FROM};
 use crate::feedback_make::{received, written};
 use crate::make::Random;
@@ -65,7 +66,7 @@ fn timed(turns: usize, mut read: impl FnMut()) -> f64 {
     start.elapsed().as_nanos() as f64 / turns as f64
 }
 
-/// Prints two lines a message: judging or parsing it alone, and with all its packets; then the least time on both sides, in ns.
+/// Prints two lines a message: its packets, its judgements, and the least time on both sides, in ns, of judging or parsing it alone and then of that with all its packets.
 pub fn times(rounds: u32) {
     for (name, message) in messages() {
         let whole = [&[0; 8], &message[..]].concat();
@@ -94,7 +95,20 @@ pub fn times(rounds: u32) {
             ];
             least = std::array::from_fn(|i| least[i].min(times[i]));
         }
-        println!("{name}: judge\t{n}\t{}\t{}", least[0], least[1]);
-        println!("{name}: whole\t{n}\t{}\t{}", least[2], least[3]);
+        println!("{name}\t0\t1\t{}\t{}", least[0], least[1]);
+        println!("{name}\t{n}\t1\t{}\t{}", least[2], least[3]);
+    }
+}
+
+/// The least times of several processes. The packets' own time is what reading takes beyond judging.
+pub fn bench(processes: u32, rounds: u32) {
+    println!("\n{:<24} {:>7} {:>26} {:>26} {:>26}", "", "", "judging, ns", "handing out, ns a packet", "both, ns a packet");
+    println!("{:<24} {:>7}{}", "feedback message", "packets", format!(" {:>9} {:>9} {:>6}", "ours", "Rust", "ratio").repeat(3));
+    for two in least("feedback_times", processes, rounds).chunks(2) {
+        let ((name, _, _, judge, parse), (_, packets, _, ours, rust)) = (&two[0], &two[1]);
+        let n = *packets as f64;
+        let times = [(*judge, *parse), ((ours - judge) / n, (rust - parse) / n), (ours / n, rust / n)];
+        let columns: String = times.iter().map(|(a, b)| format!(" {a:>9.1} {b:>9.1} {:>6.2}", a / b)).collect();
+        println!("{name:<24} {packets:>7}{columns}");
     }
 }

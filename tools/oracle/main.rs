@@ -170,9 +170,15 @@ fn main() {
             _ => panic!("no such kind"),
         },
         #[cfg(bench)]
-        Some("bench") if words.len() == 4 => bench::bench(words[2].parse().unwrap(), words[3].parse().unwrap()),
+        Some("bench") if words.len() == 4 => {
+            let (processes, rounds) = (words[2].parse().unwrap(), words[3].parse().unwrap());
+            bench::bench(processes, rounds);
+            feedback_bench::bench(processes, rounds);
+        }
         #[cfg(bench)]
         Some("times") if words.len() == 3 => bench::times(words[2].parse().unwrap()),
+        #[cfg(bench)]
+        Some("feedback_bench") if words.len() == 4 => feedback_bench::bench(words[2].parse().unwrap(), words[3].parse().unwrap()),
         #[cfg(bench)]
         Some("feedback_times") if words.len() == 3 => feedback_bench::times(words[2].parse().unwrap()),
         #[cfg(bench)]
