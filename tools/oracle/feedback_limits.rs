@@ -306,6 +306,8 @@ fn most(c: &mut Cases) {
     c.is(14, &of(&[0x8000; 4681], &[]));
     c.is(14, &of(&[0xc000; 9362], &[0xc0]));
     c.is(14, &of(&[8191; 8], &[]));
+    // 65,536 bytes of deltas are wanted, and there are none
+    c.is(14, &of(&[&[0x4001][..], &[0x3fff; 8], &[0x2006]].concat(), &[]));
     // none received, and all
     c.is(0, &of(&[0x8000; 4682], &[]));
     c.is(0, &of(&[0xbfff; 4682], &[255; 65_535]));
