@@ -1,0 +1,2 @@
+// Theorems over whole feedback messages: mathematics, there is no code.
+//   Packets     what a yes says; a good message has as many packets as its status count, in sequence order modulo 65,536
