@@ -1,3 +1,4 @@
 pub mod Packets
 pub mod InOrder
 pub mod Questions
+pub mod Unread

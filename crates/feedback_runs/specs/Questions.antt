@@ -1,4 +1,4 @@
--- What each judgement says of a message: questions 14 to 16 of document 02. And their order: 15 stays whatever follows the chunk with the reserved symbol, and a message cut before it fails 14.
+-- What each judgement says of a message, questions 14 to 16, and their order: 15 stays whatever follows the chunk with the reserved symbol, and a message cut before it fails 14.
 use mathlib.Core.Path.{_≡_, refl, sym, subst, _∙_}
 use Prim.Native.Nat.{ℕ, zero, suc, _≤_, _<_}
 use mathlib.Core.Bool.{Bool, true, false, _||_}
@@ -201,5 +201,7 @@ module _ (front after : List ℕ) where
       go true t = inl (ltb-true (length front) headerBytes t)
       go false t =
           let long = ltb-false (length front) headerBytes t in
-          let short = not-false (ltb (length (symbolsThere front)) (statusCount front)) (λ u. none (reserved-of-front front after long (s .2) (ltb-false (length (symbolsThere front)) (statusCount front) u))) in
-          inr (λ z. s .1 (front-count front after long ∙ z), none, inl (ltb-true (length (symbolsThere front)) (statusCount front) short))
+          let l = length (symbolsThere front) in
+          let n = statusCount front in
+          let short = not-false (ltb l n) (λ u. none (reserved-of-front front after long (s .2) (ltb-false l n u))) in
+          inr (λ z. s .1 (front-count front after long ∙ z), none, inl (ltb-true l n short))
