@@ -3,3 +3,4 @@
 //   InOrder     the judgement is the first fault met in reading order
 //   Questions   what each judgement says of a message, and the order of questions 14 to 16
 //   Unread      messages that are alike in what is read have the same judgement and packets
+//   Rows        chunks and messages by hand
