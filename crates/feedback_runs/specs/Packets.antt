@@ -60,7 +60,9 @@ accepted message h good =
     }
 
 -- ---- the packets
-pub packets-good : (message : List ℕ) (h : Header) → judge message ≡ Good h → packets message ≡ packetsFrom (baseSeq message) (pos 0) (symbols message) (drop (deltasAt message) message)
+pub packets-good :
+    (message : List ℕ) (h : Header) → judge message ≡ Good h →
+    packets message ≡ packetsFrom (baseSeq message) (pos 0) (symbols message) (drop (deltasAt message) message)
 unfolding packets
 packets-good message h good = rw good
 
