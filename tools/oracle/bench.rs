@@ -290,12 +290,15 @@ fn alone(rounds: u32) {
     println!("live: open\t0\t1\t{open}\tNaN");
 }
 
-/// The least times of several processes: where a process has its stack and its buffers, which differs from one to the next, changes a time by some 8 %.
-pub fn bench(processes: u32, rounds: u32) {
-    let mut least: Vec<(String, usize, usize, f64, f64)> = vec![];
+/// Name, packets, calls, and the times of the two sides.
+pub type Line = (String, usize, usize, f64, f64);
+
+/// The lines of a command with the least times of several processes: where a process has its stack and its buffers, which differs from one to the next, changes a time by some 8 %.
+pub fn least(command: &str, processes: u32, rounds: u32) -> Vec<Line> {
+    let mut least: Vec<Line> = vec![];
     for _ in 0..processes {
         let me = std::env::current_exe().expect("no path of this program");
-        let run = std::process::Command::new(me).args(["times", &rounds.to_string()]).output().expect("a process was not started");
+        let run = std::process::Command::new(me).args([command, &rounds.to_string()]).output().expect("a process was not started");
         assert!(run.status.success(), "{}", String::from_utf8_lossy(&run.stderr));
         for (i, line) in String::from_utf8_lossy(&run.stdout).lines().enumerate() {
             let f: Vec<&str> = line.split('\t').collect();
@@ -308,9 +311,13 @@ pub fn bench(processes: u32, rounds: u32) {
             }
         }
     }
+    least
+}
+
+pub fn bench(processes: u32, rounds: u32) {
     println!("{:<36} {:>7} {:>5} {:>19} {:>19} {:>6}", "", "", "", "ns a packet", "ns a call", "");
     println!("{:<36} {:>7} {:>5} {:>9} {:>9} {:>9} {:>9} {:>6}", "pass", "packets", "calls", "ours", "Rust", "ours", "Rust", "ratio");
-    for (name, packets, calls, a, b) in least {
+    for (name, packets, calls, a, b) in least("times", processes, rounds) {
         let each = |time: f64, n: usize| if n == 0 || time.is_nan() { "-".into() } else { format!("{:.1}", time / n as f64) };
         let ratio = if b.is_nan() { "-".into() } else { format!("{:.2}", a / b) };
         println!("{name:<36} {packets:>7} {calls:>5} {:>9} {:>9} {:>9} {:>9} {ratio:>6}", each(a, packets), each(b, packets), each(a, calls), each(b, calls));

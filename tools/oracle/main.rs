@@ -10,7 +10,11 @@
 //!     oracle case ROOM                  the same of the pass file on standard input, with an output of ROOM bytes; ROOM may be enough
 //!     oracle lent SEED CALLS            calls on lent links with the Rust's answers and its state after each, to standard output
 //!     oracle lent_paths SEED CALLS      how often those calls take which path
-//!     oracle limits KIND                cases at each limit and beside it; KIND is modules, links, passes (pass files) or files (their lengths and outputs)
+//!     oracle feedback SEED COUNT        feedback messages with document 02's answers, to standard output; the Rust's are held to a model of where it parts from them
+//!     oracle feedback_counts SEED COUNT how often those messages get which answer, and which part of the Rust's changes it
+//!     oracle feedback_real              the messages of samples/feedback.jsonl on standard input with the file's own readings, to standard output
+//!     oracle feedback_differences       where the Rust's reading parts from document 02's, as rows of a table
+//!     oracle limits KIND                cases at each limit and beside it; KIND is modules, links, passes (pass files), files (their lengths and outputs) or feedback (messages)
 //!     oracle list                       as passrun: the listing of the pass file on standard input, or the number of the question that it fails
 //!
 //! A case is 12 words of 8 bytes, little-endian: an operation, 5 inputs, 6 answers. drive.rs has the operations, make.rs the cases.
@@ -20,6 +24,10 @@ macro_rules! log_stat {
 }
 
 macro_rules! trace {
+    ($($arg:tt)*) => {};
+}
+
+macro_rules! warn {
     ($($arg:tt)*) => {};
 }
 
@@ -38,7 +46,39 @@ mod rtp_ {
 
     #[derive(Debug, Clone, Copy, PartialEq, Eq, PartialOrd, Ord)]
     pub struct TwccSeq(pub u64);
+
+    impl TwccSeq {
+        pub fn inc(&mut self) -> TwccSeq {
+            self.0 += 1;
+            TwccSeq(self.0 - 1)
+        }
+    }
+
+    impl From<u64> for TwccSeq {
+        fn from(v: u64) -> Self {
+            TwccSeq(v)
+        }
+    }
+
+    impl std::fmt::Display for TwccSeq {
+        fn fmt(&self, f: &mut std::fmt::Formatter<'_>) -> std::fmt::Result {
+            self.0.fmt(f)
+        }
+    }
+
+    impl std::ops::Deref for TwccSeq {
+        type Target = u64;
+
+        fn deref(&self) -> &u64 {
+            &self.0
+        }
+    }
+
+    #[derive(Debug, Clone, Copy, PartialEq, Eq)]
+    pub struct TwccClusterId(pub u64);
 }
+
+mod rtcp;
 
 mod average;
 
@@ -88,6 +128,12 @@ mod bwe {
 mod bench;
 mod demand3;
 mod distance;
+mod feedback;
+#[cfg(bench)]
+mod feedback_bench;
+mod feedback_limits;
+mod feedback_make;
+mod feedback_real;
 mod lent;
 mod lent_make;
 mod lent_state;
@@ -108,6 +154,10 @@ fn main() {
         Some("entries") if words.len() == 2 => distance::entries(),
         Some("lent") if words.len() == 4 => lent::make(words[2].parse().unwrap(), words[3].parse().unwrap()),
         Some("lent_paths") if words.len() == 4 => lent::paths(words[2].parse().unwrap(), words[3].parse().unwrap()),
+        Some("feedback") if words.len() == 4 => feedback::make(words[2].parse().unwrap(), words[3].parse().unwrap()),
+        Some("feedback_counts") if words.len() == 4 => feedback::counts(words[2].parse().unwrap(), words[3].parse().unwrap()),
+        Some("feedback_real") if words.len() == 2 => feedback_real::real(),
+        Some("feedback_differences") if words.len() == 2 => feedback_real::differences(),
         Some("list") if words.len() == 2 => pass_files::list(),
         Some("passes") if words.len() == 5 => pass_files::make(words[2].parse().unwrap(), words[3].parse().unwrap(), &words[4]),
         Some("case") if words.len() == 3 => pass_files::case(&words[2]),
@@ -116,16 +166,25 @@ fn main() {
             "links" => limits_calls::links(),
             "passes" => limits_calls::passes(),
             "files" => limits_calls::lengths(),
+            "feedback" => feedback_limits::feedback(),
             _ => panic!("no such kind"),
         },
         #[cfg(bench)]
-        Some("bench") if words.len() == 4 => bench::bench(words[2].parse().unwrap(), words[3].parse().unwrap()),
+        Some("bench") if words.len() == 4 => {
+            let (processes, rounds) = (words[2].parse().unwrap(), words[3].parse().unwrap());
+            bench::bench(processes, rounds);
+            feedback_bench::bench(processes, rounds);
+        }
         #[cfg(bench)]
         Some("times") if words.len() == 3 => bench::times(words[2].parse().unwrap()),
         #[cfg(bench)]
+        Some("feedback_bench") if words.len() == 4 => feedback_bench::bench(words[2].parse().unwrap(), words[3].parse().unwrap()),
+        #[cfg(bench)]
+        Some("feedback_times") if words.len() == 3 => feedback_bench::times(words[2].parse().unwrap()),
+        #[cfg(bench)]
         Some("turns") if words.len() == 5 => bench::turns(&words[2], &words[3], words[4].parse().unwrap()),
         _ => {
-            eprintln!("usage: oracle make MODULE SEED COUNT | distance A B | listings A B | demand3 SEED COUNT | zero_sizes SIZE | entries | passes SEED COUNT SIZE | case ROOM | limits KIND | lent SEED CALLS | lent_paths SEED CALLS | list");
+            eprintln!("usage: oracle make MODULE SEED COUNT | distance A B | listings A B | demand3 SEED COUNT | zero_sizes SIZE | entries | passes SEED COUNT SIZE | case ROOM | feedback SEED COUNT | feedback_counts SEED COUNT | feedback_real | feedback_differences | limits KIND | lent SEED CALLS | lent_paths SEED CALLS | list");
             std::process::exit(2);
         }
     }

@@ -195,13 +195,13 @@ pub struct FeedbackReader<'a> {
 }
 
 pub struct ReaderStart<'a> {
-    pub judged: Judged,
     pub reader: FeedbackReader<'a>,
+    pub judged: Judged,
 }
 
 pub struct ReaderStep<'a> {
-    pub packet: OptionPacket,
     pub reader: FeedbackReader<'a>,
+    pub packet: OptionPacket,
 }
 
 impl<'a> FeedbackReader<'a> {
@@ -211,12 +211,12 @@ impl<'a> FeedbackReader<'a> {
     {
         let started = start(message);
         ReaderStart {
-            judged: started.judged,
             reader: FeedbackReader {
                 message: message,
                 next_chunk: started.next_chunk,
                 cursor: started.cursor,
             },
+            judged: started.judged,
         }
     }
 
@@ -226,12 +226,12 @@ impl<'a> FeedbackReader<'a> {
     {
         let stepped = step(self.message, self.next_chunk, self.cursor);
         ReaderStep {
-            packet: stepped.packet,
             reader: FeedbackReader {
                 message: self.message,
                 next_chunk: stepped.next_chunk,
                 cursor: stepped.cursor,
             },
+            packet: stepped.packet,
         }
     }
 

@@ -1,65 +1,51 @@
+-- `feedback_reader::fill` meets its contract. The loop's invariant: what is found from here on is what is found from the first place on.
+use Prim.Native.Nat.{_+_, _-_, _≤_, _<_}
+use mathlib.Core.Path.{_≡_, refl, sym, _∙_}
+use native.Mathlib.Omega.{arith}
+use lib.ListN.{length, drop, length-drop}
+use denote.Ref.{now}
+use borrow.Author.Needs.{needs}
+use borrow.Author.Tests.{ltb-true, ltb-false}
+use Rattle.feedback_reader.specs.Reader.{filled}
+use Rattle.feedback_reader.specs.Filling.{filled-now, filled-end, filled-turn}
 use Rattle.feedback_reader.proofs.fill.Statement.{statement}
 use Rattle.feedback_reader.proofs.fill.Tie as tie
-use Rattle.feedback_reader.proofs.fill.Reads as reads
-use Rattle.feedback_reader.proofs.fill.Lts as lts
-use Rattle.status_chunk.proofs.symbol_count.Reads as symbol-count-reads
-use Rattle.twcc.proofs.cut_short.Reads as cut-short-reads
-use Rattle.twcc.proofs.read_u16.Reads as read-u16-reads
 
 abbrev Inv-loop : tie.InvT-loop
-Inv-loop message first at-hand symbols-used next-chunk₀ chunk₀ used₀ next-chunk chunk used = ?
+Inv-loop message first at-hand symbols-used next-chunk₀ chunk₀ used₀ next-chunk chunk used =
+    filled (drop next-chunk message) next-chunk chunk used ≡ filled (drop first message) first at-hand symbols-used
 
 abbrev μ-loop : tie.MeasureT-loop
-μ-loop message first at-hand symbols-used next-chunk₀ chunk₀ used₀ next-chunk chunk used = ?
+μ-loop message first at-hand symbols-used next-chunk₀ chunk₀ used₀ next-chunk chunk used = length message - next-chunk
 
--- src/lib.rt:97:5
+-- where the loop goes on, two bytes are there
+there : (c : tie.Else2 Inv-loop μ-loop) → c .before .before .before .before .loop .next-chunk + 2 ≤ length (now (c .before .before .before .before .before .before .args .message))
+there c = ltb-false _ _ (sym (c .before .cut-short .ensures) ∙ c .if2 .left)
+
 loop-holds : tie.Need-loop-holds Inv-loop μ-loop
-loop-holds c = ?
+loop-holds c = refl
 
--- src/lib.rt:97:11
-symbol-count-requires : tie.Need-symbol-count-requires Inv-loop μ-loop
-symbol-count-requires c κs = ?
-
--- src/lib.rt:98:12
-cut-short-requires : tie.Need-cut-short-requires Inv-loop μ-loop
-cut-short-requires c κs = ?
-
--- src/lib.rt:99:13
 returns : tie.Need-returns Inv-loop μ-loop
-returns c = ?
+returns c =
+    let l : length (now (c .before .before .before .before .before .before .args .message)) < c .before .before .before .before .loop .next-chunk + 2 = ltb-true _ _ (sym (c .before .cut-short .ensures) ∙ c .if2 .taken) in
+    filled-end (drop (c .before .before .before .before .loop .next-chunk) (now (c .before .before .before .before .before .before .args .message))) _ _ _ (simp length-drop (omega arith))
+    ∙ c .before .before .before .before .loop .inv
 
--- src/lib.rt:105:9
-read-u16-requires : tie.Need-read-u16-requires Inv-loop μ-loop
-read-u16-requires c κs = ?
-
--- src/lib.rt:107:9
 add-next-chunk : tie.Need-add-next-chunk Inv-loop μ-loop
-add-next-chunk c = ?
+add-next-chunk c = omega (arith, there (c .before))
 
--- src/lib.rt:97:5
 loop-less : tie.Need-loop-less Inv-loop μ-loop
-loop-less c = ?
+loop-less c = omega (arith, there (c .before))
 
--- src/lib.rt:97:5
 loop-again : tie.Need-loop-again Inv-loop μ-loop
-loop-again c = ?
+loop-again c =
+    rw (c .read-u16 .ensures)
+    (sym (filled-turn _ _ (c .before .before .before .before .before .loop .chunk) (c .before .before .before .before .before .loop .used) (there (c .before)) (rw (c .before .before .before .before .symbol-count .ensures) at (c .before .before .before .if1 .taken)))
+    ∙ c .before .before .before .before .before .loop .inv)
 
--- src/lib.rt:91:1
 returns-2 : tie.Need-returns-2 Inv-loop μ-loop
-returns-2 c = ?
+returns-2 c =
+    filled-now (drop (c .before .before .loop .next-chunk) (now (c .before .before .before .before .args .message))) _ _ _ (rw (c .before .symbol-count .ensures) at (c .if1 .left)) ∙ c .before .before .loop .inv
 
 pub fill-spec : {M : Type 1} → statement M
-fill-spec =
-    tie.close
-    (tie.spec
-    Inv-loop
-    μ-loop
-    loop-holds
-    symbol-count-requires
-    cut-short-requires
-    returns
-    read-u16-requires
-    add-next-chunk
-    loop-less
-    loop-again
-    returns-2)
+fill-spec = tie.close (tie.spec Inv-loop μ-loop loop-holds (λ c κs. search needs) (λ c κs. search needs) returns (λ c κs. search needs) add-next-chunk loop-less loop-again returns-2)

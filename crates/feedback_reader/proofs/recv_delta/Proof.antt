@@ -1,48 +1,21 @@
+-- `feedback_reader::recv_delta` meets its contract: the tests on the way choose the definition's case.
 use borrow.Author.Needs.{needs}
+use borrow.Author.Tests.{eq-eqb, ne-eqb}
+use Rattle.feedback_reader.specs.Reader.{deltaBits}
 use Rattle.feedback_reader.proofs.recv_delta.Statement.{statement}
 use Rattle.feedback_reader.proofs.recv_delta.Tie as tie
-use Rattle.feedback_reader.proofs.recv_delta.Reads as reads
-use Rattle.feedback_reader.proofs.recv_delta.Lts as lts
-use Rattle.le_bytes.proofs.read_u8.Reads as read-u8-reads
-use Rattle.twcc.proofs.read_u16.Reads as read-u16-reads
-use Rattle.twcc.proofs.sign_extend_u16.Reads as sign-extend-u16-reads
 
--- src/lib.rt:121:38
-read-u16-requires : tie.Need-read-u16-requires
-read-u16-requires c κs = search needs
-
--- src/lib.rt:121:9
-sign-extend-u16-requires : tie.Need-sign-extend-u16-requires
-sign-extend-u16-requires c κs = search needs
-
--- src/lib.rt:121:9
 returns : tie.Need-returns
-returns c = ?
+unfolding deltaBits
+returns c = rw (eq-eqb _ _ (c .before .before .if1 .taken), c .sign-extend-u16 .ensures, c .before .read-u16 .ensures)
 
--- src/lib.rt:124:16
-read-u8-requires : tie.Need-read-u8-requires
-read-u8-requires c κs = search needs
-
--- src/lib.rt:124:16
-cast-result : tie.Need-cast-result
-cast-result c = search needs
-
--- src/lib.rt:124:9
 returns-2 : tie.Need-returns-2
-returns-2 c = ?
+unfolding deltaBits
+returns-2 c = simp (ne-eqb _ _ (c .before .before .if1 .left), eq-eqb _ _ (c .before .if2 .taken), c .read-u8 .ensures)
 
--- src/lib.rt:117:1
 returns-3 : tie.Need-returns-3
-returns-3 c = ?
+unfolding deltaBits
+returns-3 c = simp (ne-eqb _ _ (c .before .if1 .left), ne-eqb _ _ (c .if2 .left))
 
 pub recv-delta-spec : {M : Type 1} → statement M
-recv-delta-spec =
-    tie.close
-    (tie.spec
-    read-u16-requires
-    sign-extend-u16-requires
-    returns
-    read-u8-requires
-    cast-result
-    returns-2
-    returns-3)
+recv-delta-spec = tie.close (tie.spec (λ c κs. search needs) (λ c κs. search needs) returns (λ c κs. search needs) (λ c. search needs) returns-2 returns-3)

@@ -1,0 +1,69 @@
+-- `feedback_reader::step` meets its contract: the tests on the way choose the definition's case.
+use mathlib.Core.Path.{sym, _∙_}
+use native.Mathlib.Omega.{arith}
+use borrow.Author.Needs.{needs}
+use borrow.Author.Tests.{lt-ltb, le-ltb, eq-eqb, ne-eqb, ltb-false}
+use Rattle.feedback_reader.specs.Reader.{step, stepIn, takenIf}
+use Rattle.feedback_reader.proofs.step.Statement.{statement}
+use Rattle.feedback_reader.proofs.step.Tie as tie
+
+returns : tie.Need-returns
+unfolding step
+returns c = rw (eq-eqb _ _ (c .before .if1 .taken)) (c .none .ensures)
+
+returns-2 : tie.Need-returns-2
+unfolding step stepIn
+returns-2 c =
+    rw (ne-eqb _ _ (c .before .before .before .before .before .if1 .left), ← c .before .before .before .before .fill .ensures, ← c .before .before .before .symbol-count .ensures, le-ltb _ _ (c .before .if2 .taken))
+    (c .none2 .ensures)
+
+returns-3 : tie.Need-returns-3
+unfolding step stepIn takenIf
+returns-3 c =
+    rw (
+      ne-eqb _ _ (c .before .before .before .before .before .before .before .if1 .left),
+      ← c .before .before .before .before .before .before .fill .ensures,
+      ← c .before .before .before .before .before .symbol-count .ensures,
+      lt-ltb _ _ (c .before .before .before .if2 .left),
+      ← c .before .before .symbol .ensures,
+      eq-eqb _ _ (c .before .if3 .taken),
+    )
+    (c .none3 .ensures)
+
+returns-4 : tie.Need-returns-4
+unfolding step stepIn takenIf
+returns-4 c =
+    rw (
+      ne-eqb _ _ (c .before .before .before .before .before .before .before .before .before .if1 .left),
+      ← c .before .before .before .before .before .before .before .before .fill .ensures,
+      ← c .before .before .before .before .before .before .before .symbol-count .ensures,
+      lt-ltb _ _ (c .before .before .before .before .before .if2 .left),
+      ← c .before .before .before .before .symbol .ensures,
+      ne-eqb _ _ (c .before .before .before .if3 .left),
+      ← c .before .before .cut-short .ensures,
+      c .before .if4 .taken,
+    )
+    (c .none4 .ensures)
+
+take-requires : tie.Need-take-requires
+take-requires c κs = (ltb-false _ _ (sym (c .before .cut-short .ensures) ∙ c .if4 .left), (omega arith, omega arith))
+
+returns-5 : tie.Need-returns-5
+unfolding step stepIn takenIf
+returns-5 c =
+    rw (
+      ne-eqb _ _ (c .before .before .before .before .before .before .before .before .before .if1 .left),
+      ← c .before .before .before .before .before .before .before .before .fill .ensures,
+      ← c .before .before .before .before .before .before .before .symbol-count .ensures,
+      lt-ltb _ _ (c .before .before .before .before .before .if2 .left),
+      ← c .before .before .before .before .symbol .ensures,
+      ne-eqb _ _ (c .before .before .before .if3 .left),
+      ← c .before .before .cut-short .ensures,
+      c .before .if4 .left,
+    )
+    (c .take .ensures)
+
+pub step-spec : {M : Type 1} → statement M
+step-spec =
+    tie.close
+    (tie.spec (λ c κs. search needs) returns (λ c κs. search needs) (λ c κs. search needs) (λ c κs. search needs) returns-2 (λ c κs. search needs) (λ c κs. search needs) returns-3 (λ c. search needs) (λ c κs. search needs) (λ c κs. search needs) returns-4 take-requires returns-5)
