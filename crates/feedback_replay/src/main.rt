@@ -19,7 +19,7 @@ const PACKET_BYTES: usize = 8;
 const ROOM: usize = 1_000_000;
 
 struct Case {
-    length: usize,
+    length: u32,
     number: u32,
     base_seq: u32,
     status_count: u32,
@@ -29,7 +29,7 @@ struct Case {
 
 fn read_case(bytes: &[u8]) -> Case {
     Case {
-        length: le_bytes::read_u32(bytes, 0) as usize,
+        length: le_bytes::read_u32(bytes, 0),
         number: le_bytes::read_u32(bytes, 4),
         base_seq: le_bytes::read_u32(bytes, 8),
         status_count: le_bytes::read_u32(bytes, 12),
@@ -144,7 +144,7 @@ fn compared(c: Case, message: &[u8], told: &[u8]) -> bool {
 
 // Reads a case's message and packets and compares. What is cut short or too long differs.
 fn read_and_compared(c: Case, bytes: &mut [u8]) -> bool {
-    let length = c.length;
+    let length = c.length as usize;
     let end = length + packets(c) as usize * PACKET_BYTES;
     if end > bytes.len() {
         return false;
