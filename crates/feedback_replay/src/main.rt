@@ -1,10 +1,13 @@
-// Replays feedback messages (tools/oracle, command feedback) from standard input, and compares the judgement, the header and every packet that is handed out. A case is
-// six words of 4 bytes, little-endian: length of the message, number, base sequence, status count, reference time and feedback count, the last four 0 if refused; then
-// the message; then of a good one 8 bytes a packet: sequence and received, 2 bytes each, and ticks, 4 bytes.
+// Replays feedback messages (tools/oracle, command feedback) from standard input, and compares the judgement, the header and every packet that is handed out, by steps
+// over the lent message and by a reader that holds it. A case is six words of 4 bytes, little-endian: length of the message, number, base sequence, status count,
+// reference time and feedback count, the last four 0 if refused; then the message; then of a good one 8 bytes a packet: sequence and received, 2 bytes each, and
+// ticks, 4 bytes.
 // Prints how many messages and how many of them differ, how many packets the good ones tell of, and the first message that differs.
 use cases::Counts;
 use feedback_reader::Cursor;
 use feedback_reader::CursorStart;
+use feedback_reader::CursorStep;
+use feedback_reader::FeedbackReader;
 use feedback_reader::OptionPacket;
 use libc::STDIN_FILENO;
 use twcc::Header;
@@ -106,32 +109,60 @@ fn is_none(packet: OptionPacket) -> bool {
     }
 }
 
+// A step by a reader that holds the message.
+fn next_by_reader(message: &[u8], next_chunk: usize, cursor: Cursor) -> CursorStep {
+    let step = FeedbackReader {
+        message: message,
+        next_chunk: next_chunk,
+        cursor: cursor,
+    }.next();
+    CursorStep {
+        packet: step.packet,
+        next_chunk: step.reader.next_chunk,
+        cursor: step.reader.cursor,
+    }
+}
+
+// A step, by a reader that holds the message or without one.
+fn step(message: &[u8], next_chunk: usize, cursor: Cursor, by_reader: bool) -> CursorStep {
+    if by_reader {
+        return next_by_reader(message, next_chunk, cursor);
+    }
+    feedback_reader::step(message, next_chunk, cursor)
+}
+
 // Whether none is left, asked three times.
-fn none_left(message: &[u8], next_chunk: usize, cursor: Cursor) -> bool {
-    let step = feedback_reader::step(message, next_chunk, cursor);
-    let first = step.packet;
-    let cursor = step.cursor;
-    let step = feedback_reader::step(message, step.next_chunk, cursor);
-    let second = step.packet;
-    let cursor = step.cursor;
-    let step = feedback_reader::step(message, step.next_chunk, cursor);
-    let third = step.packet;
+fn none_left(message: &[u8], next_chunk: usize, cursor: Cursor, by_reader: bool) -> bool {
+    let answer = step(message, next_chunk, cursor, by_reader);
+    let first = answer.packet;
+    let cursor = answer.cursor;
+    let answer = step(message, answer.next_chunk, cursor, by_reader);
+    let second = answer.packet;
+    let cursor = answer.cursor;
+    let answer = step(message, answer.next_chunk, cursor, by_reader);
+    let third = answer.packet;
     is_none(first) & is_none(second) & is_none(third)
 }
 
 // Whether a started reader hands out so many packets as told, then none.
-fn hands_out_all(message: &[u8], started: CursorStart, told: &[u8], count: u32) -> bool {
+fn hands_out_all(
+    message: &[u8],
+    started: CursorStart,
+    told: &[u8],
+    count: u32,
+    by_reader: bool,
+) -> bool {
     let mut same = true;
     let mut next_chunk = started.next_chunk;
     let mut cursor = started.cursor;
     for i in 0..count {
-        let step = feedback_reader::step(message, next_chunk, cursor);
-        let packet = step.packet;
+        let answer = step(message, next_chunk, cursor, by_reader);
+        let packet = answer.packet;
         same = same & hands_out(packet, told, i);
-        next_chunk = step.next_chunk;
-        cursor = step.cursor;
+        next_chunk = answer.next_chunk;
+        cursor = answer.cursor;
     }
-    same & none_left(message, next_chunk, cursor)
+    same & none_left(message, next_chunk, cursor, by_reader)
 }
 
 fn compared(c: Case, message: &[u8], told: &[u8]) -> bool {
@@ -139,7 +170,8 @@ fn compared(c: Case, message: &[u8], told: &[u8]) -> bool {
     let judged = started.judged;
     agrees(c, twcc::judge(message))
         & agrees(c, judged)
-        & hands_out_all(message, started, told, packets(c))
+        & hands_out_all(message, started, told, packets(c), false)
+        & hands_out_all(message, started, told, packets(c), true)
 }
 
 // Reads a case's message and packets and compares. What is cut short or too long differs.

@@ -5,10 +5,10 @@ use Rattle.feedback_replay.proofs.hands_out_all.Statement.{statement}
 use Rattle.feedback_replay.proofs.hands_out_all.Tie as tie
 
 abbrev Inv-loop : tie.InvT-loop
-Inv-loop message told count same₀ next-chunk₀ cursor₀ i₀ same next-chunk cursor i = i ≤ count
+Inv-loop message told count by-reader same₀ next-chunk₀ cursor₀ i₀ same next-chunk cursor i = i ≤ count
 
 abbrev μ-loop : tie.MeasureT-loop
-μ-loop message told count same₀ next-chunk₀ cursor₀ i₀ same next-chunk cursor i = count - i
+μ-loop message told count by-reader same₀ next-chunk₀ cursor₀ i₀ same next-chunk cursor i = count - i
 
 pub hands-out-all-spec : {M : Type 1} → statement M
 hands-out-all-spec =
