@@ -1,6 +1,6 @@
 // A packet status chunk of a feedback message: 16 bits that stand for a list of status symbols.
 ghost use mathlib.Core.Path.{_≡_};
-ghost use Prim.Native.Nat.{_<_, _≤_, min};
+ghost use Prim.Native.Nat.{_-_, _<_, _≤_, min};
 ghost use lib.ListN.{take};
 ghost use Rattle.status_chunk.specs.Chunk as Chunk;
 
@@ -54,6 +54,43 @@ fn two_bit(chunk: u16, i: u16) -> u16
         return (chunk >> (12 - 2 * i)) % 4;
     }
     chunk % 4
+}
+
+// The first of so many symbols that are left of a chunk; the first of all where it has not so many.
+pub fn symbol_left(chunk: u16, left: u16) -> u16
+    ensures { λ r. ⌜ r ≡ Chunk.symbolLeft chunk left ⌝ }
+{
+    if chunk < STATUS_VECTOR {
+        return chunk / 8192;
+    }
+    if chunk < TWO_BIT_VECTOR {
+        return one_bit_left(chunk, left);
+    }
+    two_bit_left(chunk, left)
+}
+
+fn one_bit_left(chunk: u16, left: u16) -> u16
+    ensures { λ r. ⌜ r ≡ Chunk.oneBit chunk (14 - left) ⌝ }
+{
+    if left == 0 {
+        return chunk % 2;
+    }
+    if left < 14 {
+        return (chunk >> (left - 1)) % 2;
+    }
+    (chunk >> 13) % 2
+}
+
+fn two_bit_left(chunk: u16, left: u16) -> u16
+    ensures { λ r. ⌜ r ≡ Chunk.twoBit chunk (7 - left) ⌝ }
+{
+    if left == 0 {
+        return chunk % 4;
+    }
+    if left < 7 {
+        return (chunk >> (2 * left - 2)) % 4;
+    }
+    (chunk >> 12) % 4
 }
 
 // How many of n statuses a chunk covers.

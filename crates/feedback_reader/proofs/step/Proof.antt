@@ -2,7 +2,7 @@
 use mathlib.Core.Path.{sym, _∙_}
 use native.Mathlib.Omega.{arith}
 use borrow.Author.Needs.{needs}
-use borrow.Author.Tests.{lt-ltb, le-ltb, eq-eqb, ne-eqb, ltb-false}
+use borrow.Author.Tests.{eq-eqb, ne-eqb, ltb-false}
 use Rattle.feedback_reader.specs.Reader.{step, stepIn, takenIf}
 use Rattle.feedback_reader.proofs.step.Statement.{statement}
 use Rattle.feedback_reader.proofs.step.Tie as tie
@@ -14,18 +14,17 @@ returns c = rw (eq-eqb _ _ (c .before .if1 .taken)) (c .none .ensures)
 returns-2 : tie.Need-returns-2
 unfolding step stepIn
 returns-2 c =
-    rw (ne-eqb _ _ (c .before .before .before .before .before .if1 .left), ← c .before .before .before .before .fill .ensures, ← c .before .before .before .symbol-count .ensures, le-ltb _ _ (c .before .if2 .taken))
+    rw (ne-eqb _ _ (c .before .before .before .before .if1 .left), ← c .before .before .before .fill .ensures, eq-eqb _ _ (c .before .if2 .taken))
     (c .none2 .ensures)
 
 returns-3 : tie.Need-returns-3
 unfolding step stepIn takenIf
 returns-3 c =
     rw (
-      ne-eqb _ _ (c .before .before .before .before .before .before .before .if1 .left),
-      ← c .before .before .before .before .before .before .fill .ensures,
-      ← c .before .before .before .before .before .symbol-count .ensures,
-      lt-ltb _ _ (c .before .before .before .if2 .left),
-      ← c .before .before .symbol .ensures,
+      ne-eqb _ _ (c .before .before .before .before .before .before .if1 .left),
+      ← c .before .before .before .before .before .fill .ensures,
+      ne-eqb _ _ (c .before .before .before .if2 .left),
+      ← c .before .before .symbol-left .ensures,
       eq-eqb _ _ (c .before .if3 .taken),
     )
     (c .none3 .ensures)
@@ -34,11 +33,10 @@ returns-4 : tie.Need-returns-4
 unfolding step stepIn takenIf
 returns-4 c =
     rw (
-      ne-eqb _ _ (c .before .before .before .before .before .before .before .before .before .if1 .left),
-      ← c .before .before .before .before .before .before .before .before .fill .ensures,
-      ← c .before .before .before .before .before .before .before .symbol-count .ensures,
-      lt-ltb _ _ (c .before .before .before .before .before .if2 .left),
-      ← c .before .before .before .before .symbol .ensures,
+      ne-eqb _ _ (c .before .before .before .before .before .before .before .before .if1 .left),
+      ← c .before .before .before .before .before .before .before .fill .ensures,
+      ne-eqb _ _ (c .before .before .before .before .before .if2 .left),
+      ← c .before .before .before .before .symbol-left .ensures,
       ne-eqb _ _ (c .before .before .before .if3 .left),
       ← c .before .before .cut-short .ensures,
       c .before .if4 .taken,
@@ -52,11 +50,10 @@ returns-5 : tie.Need-returns-5
 unfolding step stepIn takenIf
 returns-5 c =
     rw (
-      ne-eqb _ _ (c .before .before .before .before .before .before .before .before .before .if1 .left),
-      ← c .before .before .before .before .before .before .before .before .fill .ensures,
-      ← c .before .before .before .before .before .before .before .symbol-count .ensures,
-      lt-ltb _ _ (c .before .before .before .before .before .if2 .left),
-      ← c .before .before .before .before .symbol .ensures,
+      ne-eqb _ _ (c .before .before .before .before .before .before .before .before .if1 .left),
+      ← c .before .before .before .before .before .before .before .fill .ensures,
+      ne-eqb _ _ (c .before .before .before .before .before .if2 .left),
+      ← c .before .before .before .before .symbol-left .ensures,
       ne-eqb _ _ (c .before .before .before .if3 .left),
       ← c .before .before .cut-short .ensures,
       c .before .if4 .left,
@@ -66,4 +63,4 @@ returns-5 c =
 pub step-spec : {M : Type 1} → statement M
 step-spec =
     tie.close
-    (tie.spec (λ c κs. search needs) returns (λ c κs. search needs) (λ c κs. search needs) (λ c κs. search needs) returns-2 (λ c κs. search needs) (λ c κs. search needs) returns-3 (λ c. search needs) (λ c κs. search needs) (λ c κs. search needs) returns-4 take-requires returns-5)
+    (tie.spec (λ c κs. search needs) returns (λ c κs. search needs) (λ c κs. search needs) returns-2 (λ c κs. search needs) (λ c κs. search needs) returns-3 (λ c. search needs) (λ c κs. search needs) (λ c κs. search needs) returns-4 take-requires returns-5)

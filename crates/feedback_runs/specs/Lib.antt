@@ -1,0 +1,5 @@
+pub mod Packets
+pub mod InOrder
+pub mod Questions
+pub mod Unread
+pub mod Rows
