@@ -42,10 +42,10 @@ pub struct CursorStep {
 }
 
 // A chunk, how many of its symbols are left, and the place of the chunk after it.
-struct Place {
-    next_chunk: usize,
-    chunk: u16,
-    symbols_left: u16,
+pub struct Place {
+    pub next_chunk: usize,
+    pub chunk: u16,
+    pub symbols_left: u16,
 }
 
 // The cursor before the first packet. The chunk before the first is a run of no symbols.
@@ -112,6 +112,20 @@ fn fill(message: &[u8], first: usize, at_hand: u16, symbols_left: u16) -> Place
     }
 }
 
+// How many bytes a symbol's recv delta has.
+fn byte_len(symbol: u16) -> usize
+    ensures { λ r. ⌜ r ≡ symbol ⌝ }
+{
+    symbol as usize
+}
+
+// A small delta is a byte, not signed.
+fn small_delta(byte: u8) -> u32
+    ensures { λ r. ⌜ r ≡ byte ⌝ }
+{
+    byte as u32
+}
+
 // The recv delta of a symbol at a place, in 32 bits.
 fn recv_delta(message: &[u8], at: usize, symbol: u16) -> u32
     ensures { λ r. ⌜ r ≡ Reader.deltaBits symbol (now (message .entry)) at ⌝ }
@@ -120,7 +134,7 @@ fn recv_delta(message: &[u8], at: usize, symbol: u16) -> u32
         return twcc::sign_extend_u16(twcc::read_u16(message, at));
     }
     if symbol == 1 {
-        return le_bytes::read_u8(message, at) as u32;
+        return small_delta(le_bytes::read_u8(message, at));
     }
     0
 }
@@ -143,7 +157,7 @@ fn take(message: &[u8], place: Place, cursor: Cursor, symbol: u16) -> CursorStep
     let next = Cursor {
         chunk: place.chunk,
         symbols_left: place.symbols_left - 1,
-        next_delta: cursor.next_delta + symbol as usize,
+        next_delta: cursor.next_delta + byte_len(symbol),
         packets_left: cursor.packets_left - 1,
         next_sequence: wrapping_add_u16(cursor.next_sequence, 1),
         ticks: ticks,
@@ -180,7 +194,7 @@ pub fn step(message: &[u8], next_chunk: usize, cursor: Cursor) -> CursorStep
     if symbol == status_chunk::RESERVED {
         return none(next_chunk, cursor);
     }
-    if twcc::cut_short(message, cursor.next_delta, symbol as usize) {
+    if twcc::cut_short(message, cursor.next_delta, byte_len(symbol)) {
         return none(next_chunk, cursor);
     }
     take(message, place, cursor, symbol)
