@@ -5,24 +5,30 @@ use mathlib.Core.List.{List, [], _∷_, _++_}
 use native.Mathlib.Omega.{arith}
 use native.Mathlib.Nat.{zero-add, suc-add}
 use lib.Dec.{eqb, ltb}
+use lib.IntN.{ℤ}
 use lib.ListN.{length, drop}
 use Rattle.bool_laws.specs.Bools.{chosen}
-use Rattle.status_chunk.specs.Chunk.{reserved, symbolLeft}
+use Rattle.status_chunk.specs.Chunk.{notReceived, reserved, symbolLeft}
+use Rattle.twcc.specs.Feedback.{packet}
 use Rattle.twcc.specs.declared.Packet.{Packet}
 use Rattle.feedback_reader.specs.Reader.{filled, none, step, stepIn, taken, takenIf}
 use Rattle.feedback_reader.specs.declared.OptionPacket.{OptionPacket}
 use Rattle.feedback_reader.specs.declared.OptionPacket.the-variants.{None, Some}
 use Rattle.feedback_reader.specs.declared.Cursor.{Cursor}
 use Rattle.feedback_reader.specs.declared.CursorStep.{CursorStep}
-use Rattle.feedback_lists.specs.Lists.{followedBy, nextPackets, placeAfter, cursorAfter}
+use Rattle.feedback_lists.specs.Lists.{followedBy, nextPackets, placeAfter, cursorAfter, sequenceOf}
 
--- ---- a step that gives none
 abbrev Stays : ℕ → Cursor → CursorStep → Type 0
 Stays at cursor s = s .packet ≡ None → s ≡ none at cursor
 
 some-not-none : {p : Packet} {C : Type 0} → Some p ≡ None → C
 some-not-none e = absurd (let z : _≡_ {A = ℕ} 0 1 = cc in omega arith)
 
+followed-first : (o : OptionPacket) (rest : List Packet) {p : Packet} {packets : List Packet} → followedBy o rest ≡ p ∷ packets → o ≡ Some p
+followed-first None rest e = absurd (let z : _≡_ {A = ℕ} 0 1 = cc in omega arith)
+followed-first (Some q) rest e = cc
+
+-- ---- a step that gives none, and one that gives a packet
 module _ (message : List ℕ) (at : ℕ) (cursor : Cursor) where
   -- it stays where it is
   pub none-stays : Stays at cursor (step message at cursor)
@@ -50,7 +56,36 @@ module _ (message : List ℕ) (at : ℕ) (cursor : Cursor) where
     cursor-none zero = refl
     cursor-none (suc n) = rw (none-stays e) (cursor-none n)
 
-  pub packets-some : {p : Packet} → step message at cursor .packet ≡ Some p → (n : ℕ) → nextPackets (suc n) message at cursor ≡ p ∷ nextPackets n message (step message at cursor .«next_chunk») (step message at cursor .cursor)
+  abbrev Numbers : CursorStep → Type 0
+  Numbers s = (p : Packet) → s .packet ≡ Some p → sequenceOf p ≡ cursor .«next_sequence»
+
+  nothing : Numbers (none at cursor)
+  nothing p e = some-not-none (sym e)
+
+  some-numbers : (symbol : ℕ) (ticks : ℤ) (p : Packet) → Some (packet symbol (cursor .«next_sequence») ticks) ≡ Some p → sequenceOf p ≡ cursor .«next_sequence»
+  unfolding packet
+  some-numbers symbol ticks p e =
+      let f : packet symbol (cursor .«next_sequence») ticks ≡ p = cc in
+      ap sequenceOf (sym f) ∙ chosen (λ q. sequenceOf q ≡ cursor .«next_sequence») (eqb symbol notReceived) refl refl
+
+  -- the packet that a step gives has the cursor's sequence number
+  pub step-number : Numbers (step message at cursor)
+  unfolding step stepIn takenIf taken
+  step-number =
+      let place = filled (drop at message) at (cursor .chunk) (cursor .«symbols_left») in
+      let s = symbolLeft (place .chunk) (place .«symbols_left») in
+      chosen Numbers (eqb (cursor .«packets_left») 0) nothing
+      (chosen Numbers (eqb (place .«symbols_left») 0) nothing
+      (chosen Numbers (eqb s reserved) nothing (chosen Numbers (ltb (length message) (cursor .«next_delta» + s)) nothing (λ p e. some-numbers s _ p e))))
+
+  -- so has the first of the next packets
+  pub first-number : (n : ℕ) {p : Packet} {packets : List Packet} → nextPackets n message at cursor ≡ p ∷ packets → sequenceOf p ≡ cursor .«next_sequence»
+  unfolding nextPackets
+  first-number zero e = absurd (let z : _≡_ {A = ℕ} 0 1 = cc in omega arith)
+  first-number (suc n) {p} e = step-number p (followed-first (step message at cursor .packet) _ e)
+
+  pub packets-some :
+      {p : Packet} → step message at cursor .packet ≡ Some p → (n : ℕ) → nextPackets (suc n) message at cursor ≡ p ∷ nextPackets n message (step message at cursor .«next_chunk») (step message at cursor .cursor)
   unfolding nextPackets
   packets-some e n = rw e
 

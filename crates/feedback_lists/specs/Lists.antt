@@ -1,5 +1,5 @@
 -- The packets that a reader's next steps hand out, where it is after them, and lists that they are handed out to.
-use Prim.Native.Nat.{ℕ, zero, suc}
+use Prim.Native.Nat.{ℕ, zero, suc, min}
 use mathlib.Core.List.{List, [], _∷_, _++_, map}
 use lib.IntN.{ℤ, pos}
 use lib.ListN.{length, drop}
@@ -39,7 +39,15 @@ handed n message at cursor =
       cursor = cursorAfter n message at cursor;
     }
 
--- ---- the lists
+-- ---- a packet, and the lists
+-- how many packets two lists have room for
+abbrev pub room : List ℕ → List ℤ → ℕ
+room statuses ticks = min (length statuses) (length ticks)
+
+abbrev pub sequenceOf : Packet → ℕ
+sequenceOf (NotReceived sequence) = sequence
+sequenceOf (Received sequence ticks) = sequence
+
 -- received or not
 abbrev pub status : Packet → ℕ
 status (NotReceived sequence) = 0

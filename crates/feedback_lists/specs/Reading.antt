@@ -17,7 +17,7 @@ use Rattle.feedback_reader.specs.Reader.{step}
 use Rattle.feedback_reader.specs.declared.OptionPacket.the-variants.{None, Some}
 use Rattle.feedback_reader.specs.declared.Cursor.{Cursor}
 use Rattle.feedback_reader.specs.declared.CursorStep.{CursorStep}
-use Rattle.feedback_lists.specs.Lists.{nextPackets, placeAfter, cursorAfter, handed, status, ticksOf, over, statusesOver, ticksOver}
+use Rattle.feedback_lists.specs.Lists.{nextPackets, placeAfter, cursorAfter, handed, status, ticksOf, room, over, statusesOver, ticksOver}
 use Rattle.feedback_lists.specs.Laws.{packets-none, place-none, cursor-none, packets-some, packets-most}
 
 -- ---- room
@@ -40,38 +40,40 @@ over-is new old h = rw zero-add at (sets-eq new old 0 (rw zero-add h))
 
 -- ---- the loop
 module _ (message statuses₀ : List ℕ) (ticks₀ : List ℤ) (first : ℕ) (from : Cursor) where
-  abbrev room : ℕ
-  room = min (length statuses₀) (length ticks₀)
+  abbrev most : ℕ
+  most = room statuses₀ ticks₀
 
   abbrev all : List Packet
-  all = nextPackets room message first from
+  all = nextPackets most message first from
 
   -- n packets are handed out; what is left, handed out too, gives the whole
   pub record Reading (statuses : List ℕ) (ticks : List ℤ) (n at : ℕ) (cursor : Cursor) : Type 0 where
-    pub most : n ≤ room
+    pub within : n ≤ most
     pub statuses-long : length statuses ≡ length statuses₀
     pub ticks-long : length ticks ≡ length ticks₀
-    pub count : n + length (nextPackets (room - n) message at cursor) ≡ length all
-    pub place : placeAfter (room - n) message at cursor ≡ placeAfter room message first from
-    pub cursor-is : cursorAfter (room - n) message at cursor ≡ cursorAfter room message first from
-    pub statuses-are : sets statuses n (map status (nextPackets (room - n) message at cursor)) ≡ sets statuses₀ 0 (map status all)
-    pub ticks-are : sets ticks n (map ticksOf (nextPackets (room - n) message at cursor)) ≡ sets ticks₀ 0 (map ticksOf all)
+    pub count : n + length (nextPackets (most - n) message at cursor) ≡ length all
+    pub place : placeAfter (most - n) message at cursor ≡ placeAfter most message first from
+    pub cursor-is : cursorAfter (most - n) message at cursor ≡ cursorAfter most message first from
+    pub statuses-are : sets statuses n (map status (nextPackets (most - n) message at cursor)) ≡ sets statuses₀ 0 (map status all)
+    pub ticks-are : sets ticks n (map ticksOf (nextPackets (most - n) message at cursor)) ≡ sets ticks₀ 0 (map ticksOf all)
 
   pub reading-none : Reading statuses₀ ticks₀ 0 first from
   reading-none =
-      let z : room - 0 ≡ room = omega arith in
-      record { most = omega arith; statuses-long = refl; ticks-long = refl; count = rw (z, zero-add); place = rw z; cursor-is = rw z; statuses-are = rw z; ticks-are = rw z }
+      let z : most - 0 ≡ most = omega arith in
+      record { within = omega arith; statuses-long = refl; ticks-long = refl; count = rw (z, zero-add); place = rw z; cursor-is = rw z; statuses-are = rw z; ticks-are = rw z }
 
   module _ {statuses : List ℕ} {ticks : List ℤ} {n at : ℕ} {cursor : Cursor} (r : Reading statuses ticks n at cursor) where
     -- one more
-    more : {p : Packet} → n < room → step message at cursor .packet ≡ Some p → Reading (set statuses n (status p)) (set ticks n (ticksOf p)) (suc n) (step message at cursor .«next_chunk») (step message at cursor .cursor)
+    more :
+        {p : Packet} → n < most → step message at cursor .packet ≡ Some p
+        → Reading (set statuses n (status p)) (set ticks n (ticksOf p)) (suc n) (step message at cursor .«next_chunk») (step message at cursor .cursor)
     unfolding placeAfter cursorAfter
     more {p} h some =
-        let z : room - n ≡ suc (room - suc n) = omega arith in
-        let left : nextPackets (room - n) message at cursor ≡ p ∷ nextPackets (room - suc n) message (step message at cursor .«next_chunk») (step message at cursor .cursor) =
-        rw z (packets-some message at cursor some (room - suc n)) in
+        let z : most - n ≡ suc (most - suc n) = omega arith in
+        let left : nextPackets (most - n) message at cursor ≡ p ∷ nextPackets (most - suc n) message (step message at cursor .«next_chunk») (step message at cursor .cursor) =
+        rw z (packets-some message at cursor some (most - suc n)) in
         record {
-          most = omega arith;
+          within = omega arith;
           statuses-long = rw length-set (r .statuses-long);
           ticks-long = rw length-set (r .ticks-long);
           count = let e = rw left at (r .count) in omega arith;
@@ -82,31 +84,31 @@ module _ (message statuses₀ : List ℕ) (ticks₀ : List ℤ) (first : ℕ) (f
         }
 
     pub reading-more :
-        {s : CursorStep} {p : Packet} {x : ℕ} {y : ℤ} → n < room → s ≡ step message at cursor → s .packet ≡ Some p → x ≡ status p → y ≡ ticksOf p
+        {s : CursorStep} {p : Packet} {x : ℕ} {y : ℤ} → n < most → s ≡ step message at cursor → s .packet ≡ Some p → x ≡ status p → y ≡ ticksOf p
         → Reading (set statuses n x) (set ticks n y) (n + 1) (s .«next_chunk») (s .cursor)
     reading-more h is some x-is y-is = rw (add-one, is, x-is, y-is) (more h (ap (λ (t : CursorStep). t .packet) (sym is) ∙ some))
 
     pub record Read : Type 0 where
-      pub answer : record { packets = n; «next_chunk» = at; cursor = cursor } ≡ handed room message first from
+      pub answer : record { packets = n; «next_chunk» = at; cursor = cursor } ≡ handed most message first from
       pub statuses-end : statuses ≡ statusesOver all statuses₀
       pub ticks-end : ticks ≡ ticksOver all ticks₀
 
     -- no more
-    ends : nextPackets (room - n) message at cursor ≡ [] → placeAfter (room - n) message at cursor ≡ at → cursorAfter (room - n) message at cursor ≡ cursor → Read
+    ends : nextPackets (most - n) message at cursor ≡ [] → placeAfter (most - n) message at cursor ≡ at → cursorAfter (most - n) message at cursor ≡ cursor → Read
     unfolding handed
     ends none there at-hand =
         let e : n + 0 ≡ length all = rw none at (r .count) in
         let f : n ≡ length all = omega arith in
-        let g = packets-most room message first from in
+        let g = packets-most most message first from in
         record {
           answer = rw (f, ← r .place, there, ← r .cursor-is, at-hand);
           statuses-end = rw none at (r .statuses-are) ∙ over-is (map status all) statuses₀ (rw length-map (omega arith));
           ticks-end = rw none at (r .ticks-are) ∙ over-is (map ticksOf all) ticks₀ (rw length-map (omega arith));
         }
 
-    pub reading-full : room ≤ n → Read
+    pub reading-full : most ≤ n → Read
     unfolding nextPackets placeAfter cursorAfter
-    reading-full h = let z : room - n ≡ 0 = omega arith in ends (rw z) (rw z) (rw z)
+    reading-full h = let z : most - n ≡ 0 = omega arith in ends (rw z) (rw z) (rw z)
 
     pub reading-end : {s : CursorStep} → s ≡ step message at cursor → s .packet ≡ None → Read
     reading-end is none =

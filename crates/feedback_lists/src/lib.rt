@@ -1,7 +1,5 @@
 // Packets of a feedback message handed out to lent lists.
 ghost use mathlib.Core.Path.{_≡_};
-ghost use Prim.Native.Nat.{min};
-ghost use lib.ListN.{length};
 ghost use Rattle.feedback_lists.specs.Lists as Lists;
 use feedback_reader::Cursor;
 use feedback_reader::OptionPacket;
@@ -42,9 +40,9 @@ pub fn read(
     statuses: &mut [u8],
     ticks: &mut [i32],
 ) -> Handed
-    ensures { λ r. ⌜ r ≡ Lists.handed (min (length (now (statuses .entry))) (length (now (ticks .entry)))) (now (message .entry)) first from ⌝ }
-    ensures { λ _. ⌜ now (statuses .exit) ≡ Lists.statusesOver (Lists.nextPackets (min (length (now (statuses .entry))) (length (now (ticks .entry)))) (now (message .entry)) first from) (now (statuses .entry)) ⌝ }
-    ensures { λ _. ⌜ now (ticks .exit) ≡ Lists.ticksOver (Lists.nextPackets (min (length (now (statuses .entry))) (length (now (ticks .entry)))) (now (message .entry)) first from) (now (ticks .entry)) ⌝ }
+    ensures { λ r. ⌜ r ≡ Lists.handed (Lists.room (now (statuses .entry)) (now (ticks .entry))) (now (message .entry)) first from ⌝ }
+    ensures { λ _. ⌜ now (statuses .exit) ≡ Lists.statusesOver (Lists.nextPackets (Lists.room (now (statuses .entry)) (now (ticks .entry))) (now (message .entry)) first from) (now (statuses .entry)) ⌝ }
+    ensures { λ _. ⌜ now (ticks .exit) ≡ Lists.ticksOver (Lists.nextPackets (Lists.room (now (statuses .entry)) (now (ticks .entry))) (now (message .entry)) first from) (now (ticks .entry)) ⌝ }
 {
     let mut packets: usize = 0;
     let mut next_chunk = first;
