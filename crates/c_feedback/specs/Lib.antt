@@ -1,0 +1,2 @@
+pub mod CFeedback
+pub mod Laws
