@@ -5,7 +5,7 @@ use mathlib.Core.List.{List, [], _∷_}
 use lib.Dec.{eqb, ltb}
 use lib.ListN.{length, getD, drop}
 use denote.Ref.{RefT, now}
-use Rattle.status_chunk.specs.Chunk.{smallDelta, largeDelta, reserved, symbolCount, symbol}
+use Rattle.status_chunk.specs.Chunk.{smallDelta, largeDelta, reserved, symbolCount, symbolLeft}
 use Rattle.twcc.specs.Feedback.{readU16, signed, headerBytes, packet}
 use Rattle.twcc.specs.Numbers.{signExtend}
 use Rattle.twcc.specs.Judging.{judgeWithDeltas}
@@ -25,7 +25,7 @@ use Rattle.feedback_reader.specs.declared.ReaderStep.{ReaderStep}
 -- the chunk before the first is a run of no symbols
 abbrev pub cursorAt : ℕ → ℕ → ℕ → Cursor
 cursorAt delta packets base =
-    record { chunk = 0; «symbols_used» = 0; «next_delta» = delta; «packets_left» = packets; «next_sequence» = base; ticks = 0 }
+    record { chunk = 0; «symbols_left» = 0; «next_delta» = delta; «packets_left» = packets; «next_sequence» = base; ticks = 0 }
 
 -- none to hand out of a message that is turned down
 abbrev pub cursorOf : Judged → ℕ → Cursor
@@ -41,12 +41,12 @@ unfoldable pub start : List ℕ → CursorStart
 start message = startBy (judgeWithDeltas message)
 
 -- ---- a step
--- the first chunk with a symbol that is not used: the one at hand, or one of those at a place
+-- the first chunk with a symbol left: the one at hand, or one of those at a place
 unfoldable pub filled : List ℕ → ℕ → ℕ → ℕ → Place
-filled [] at chunk used = record { «next_chunk» = at; chunk = chunk; «symbols_used» = used }
-filled (a ∷ []) at chunk used = record { «next_chunk» = at; chunk = chunk; «symbols_used» = used }
-filled (a ∷ b ∷ chunks) at chunk used =
-    cond (ltb used (symbolCount chunk)) (record { «next_chunk» = at; chunk = chunk; «symbols_used» = used }) (filled chunks (at + 2) (a * 256 + b) 0)
+filled [] at chunk left = record { «next_chunk» = at; chunk = chunk; «symbols_left» = left }
+filled (a ∷ []) at chunk left = record { «next_chunk» = at; chunk = chunk; «symbols_left» = left }
+filled (a ∷ b ∷ chunks) at chunk left =
+    cond (eqb left 0) (filled chunks (at + 2) (a * 256 + b) (symbolCount (a * 256 + b))) (record { «next_chunk» = at; chunk = chunk; «symbols_left» = left })
 
 -- the recv delta of a symbol at a place, in 32 bits
 unfoldable pub deltaBits : ℕ → List ℕ → ℕ → ℕ
@@ -64,7 +64,7 @@ taken message place cursor symbol =
       cursor =
           record {
             chunk = place .chunk;
-            «symbols_used» = place .«symbols_used» + 1;
+            «symbols_left» = place .«symbols_left» - 1;
             «next_delta» = cursor .«next_delta» + symbol;
             «packets_left» = cursor .«packets_left» - 1;
             «next_sequence» = (cursor .«next_sequence» + 1) % 2 ^ 16;
@@ -82,13 +82,13 @@ takenIf message nothing place cursor s =
 
 unfoldable pub stepIn : List ℕ → CursorStep → Place → Cursor → CursorStep
 stepIn message nothing place cursor =
-    cond (ltb (place .«symbols_used») (symbolCount (place .chunk))) (takenIf message nothing place cursor (symbol (place .chunk) (place .«symbols_used»))) nothing
+    cond (eqb (place .«symbols_left») 0) nothing (takenIf message nothing place cursor (symbolLeft (place .chunk) (place .«symbols_left»)))
 
 -- the next packet; none where none is left, or where the message has no more
 unfoldable pub step : List ℕ → ℕ → Cursor → CursorStep
 step message at cursor =
     cond (eqb (cursor .«packets_left») 0) (none at cursor)
-    (stepIn message (none at cursor) (filled (drop at message) at (cursor .chunk) (cursor .«symbols_used»)) cursor)
+    (stepIn message (none at cursor) (filled (drop at message) at (cursor .chunk) (cursor .«symbols_left»)) cursor)
 
 -- ---- a reader that holds the message
 abbrev pub started : RefT (List ℕ) → CursorStart → ReaderStart

@@ -3,7 +3,6 @@
 ghost use mathlib.Core.Path.{_≡_};
 ghost use Prim.Native.Nat.{_+_, _<_, _≤_};
 ghost use lib.ListN.{length, drop};
-ghost use Rattle.status_chunk.specs.Chunk.{symbolCount};
 ghost use Rattle.twcc.specs.Feedback as Feedback;
 ghost use Rattle.feedback_reader.specs.Reader as Reader;
 use std::num::wrapping_add_u16;
@@ -19,11 +18,11 @@ pub enum OptionPacket {
     Some(Packet),
 }
 
-// What a reader holds beside the message and the place of the next chunk: the chunk that it is in and how many of its symbols are used, the place of the next
+// What a reader holds beside the message and the place of the next chunk: the chunk that it is in and how many of its symbols are left, the place of the next
 // delta, how many packets are left, the next sequence number, and the sum of the deltas so far modulo 2^32.
 pub struct Cursor {
     pub chunk: u16,
-    pub symbols_used: u16,
+    pub symbols_left: u16,
     pub next_delta: usize,
     pub packets_left: u16,
     pub next_sequence: u16,
@@ -42,11 +41,11 @@ pub struct CursorStep {
     pub cursor: Cursor,
 }
 
-// A chunk, how many of its symbols are used, and the place of the chunk after it.
-struct Place {
-    next_chunk: usize,
-    chunk: u16,
-    symbols_used: u16,
+// A chunk, how many of its symbols are left, and the place of the chunk after it.
+pub struct Place {
+    pub next_chunk: usize,
+    pub chunk: u16,
+    pub symbols_left: u16,
 }
 
 // The cursor before the first packet. The chunk before the first is a run of no symbols.
@@ -55,7 +54,7 @@ fn cursor_at(next_delta: usize, packets: u16, base_seq: u16) -> Cursor
 {
     Cursor {
         chunk: 0,
-        symbols_used: 0,
+        symbols_left: 0,
         next_delta: next_delta,
         packets_left: packets,
         next_sequence: base_seq,
@@ -87,30 +86,44 @@ pub fn start(message: &[u8]) -> CursorStart
     }
 }
 
-// The first chunk with a symbol that is not used: the one at hand, or one of those from a place on. Runs of no symbols are passed over.
-fn fill(message: &[u8], first: usize, at_hand: u16, symbols_used: u16) -> Place
-    ensures { λ r. ⌜ r ≡ Reader.filled (drop first (now (message .entry))) first «at_hand» «symbols_used» ⌝ }
+// The first chunk with a symbol left: the one at hand, or one of those from a place on. Runs of no symbols are passed over.
+fn fill(message: &[u8], first: usize, at_hand: u16, symbols_left: u16) -> Place
+    ensures { λ r. ⌜ r ≡ Reader.filled (drop first (now (message .entry))) first «at_hand» «symbols_left» ⌝ }
 {
     let mut next_chunk = first;
     let mut chunk = at_hand;
-    let mut used = symbols_used;
-    while status_chunk::symbol_count(chunk) <= used {
+    let mut left = symbols_left;
+    while left == 0 {
         if twcc::cut_short(message, next_chunk, 2) {
             return Place {
                 next_chunk: next_chunk,
                 chunk: chunk,
-                symbols_used: used,
+                symbols_left: left,
             };
         }
         chunk = twcc::read_u16(message, next_chunk);
-        used = 0;
+        left = status_chunk::symbol_count(chunk);
         next_chunk += 2;
     }
     Place {
         next_chunk: next_chunk,
         chunk: chunk,
-        symbols_used: used,
+        symbols_left: left,
     }
+}
+
+// How many bytes a symbol's recv delta has.
+fn byte_len(symbol: u16) -> usize
+    ensures { λ r. ⌜ r ≡ symbol ⌝ }
+{
+    symbol as usize
+}
+
+// A small delta is a byte, not signed.
+fn small_delta(byte: u8) -> u32
+    ensures { λ r. ⌜ r ≡ byte ⌝ }
+{
+    byte as u32
 }
 
 // The recv delta of a symbol at a place, in 32 bits.
@@ -121,7 +134,7 @@ fn recv_delta(message: &[u8], at: usize, symbol: u16) -> u32
         return twcc::sign_extend_u16(twcc::read_u16(message, at));
     }
     if symbol == 1 {
-        return le_bytes::read_u8(message, at) as u32;
+        return small_delta(le_bytes::read_u8(message, at));
     }
     0
 }
@@ -137,14 +150,14 @@ fn packet(symbol: u16, sequence: u16, ticks: u32) -> Packet
 
 // The packet of the symbol at hand, and the cursor after it.
 fn take(message: &[u8], place: Place, cursor: Cursor, symbol: u16) -> CursorStep
-    requires { ⌜ (cursor .«next_delta» + symbol ≤ length (now message)) × ((0 < cursor .«packets_left») × (place .«symbols_used» < symbolCount (place .chunk))) ⌝ }
+    requires { ⌜ (cursor .«next_delta» + symbol ≤ length (now message)) × ((0 < cursor .«packets_left») × (0 < place .«symbols_left»)) ⌝ }
     ensures { λ r. ⌜ r ≡ Reader.taken (now (message .entry)) place cursor symbol ⌝ }
 {
     let ticks = wrapping_add_u32(cursor.ticks, recv_delta(message, cursor.next_delta, symbol));
     let next = Cursor {
         chunk: place.chunk,
-        symbols_used: place.symbols_used + 1,
-        next_delta: cursor.next_delta + symbol as usize,
+        symbols_left: place.symbols_left - 1,
+        next_delta: cursor.next_delta + byte_len(symbol),
         packets_left: cursor.packets_left - 1,
         next_sequence: wrapping_add_u16(cursor.next_sequence, 1),
         ticks: ticks,
@@ -173,15 +186,15 @@ pub fn step(message: &[u8], next_chunk: usize, cursor: Cursor) -> CursorStep
     if cursor.packets_left == 0 {
         return none(next_chunk, cursor);
     }
-    let place = fill(message, next_chunk, cursor.chunk, cursor.symbols_used);
-    if status_chunk::symbol_count(place.chunk) <= place.symbols_used {
+    let place = fill(message, next_chunk, cursor.chunk, cursor.symbols_left);
+    if place.symbols_left == 0 {
         return none(next_chunk, cursor);
     }
-    let symbol = status_chunk::symbol(place.chunk, place.symbols_used);
+    let symbol = status_chunk::symbol_left(place.chunk, place.symbols_left);
     if symbol == status_chunk::RESERVED {
         return none(next_chunk, cursor);
     }
-    if twcc::cut_short(message, cursor.next_delta, symbol as usize) {
+    if twcc::cut_short(message, cursor.next_delta, byte_len(symbol)) {
         return none(next_chunk, cursor);
     }
     take(message, place, cursor, symbol)

@@ -1,5 +1,5 @@
 -- The judgement is the first fault met when a message is read in order: the header, the chunks one by one and their counted symbols one by one, then the recv deltas one by one.
-use mathlib.Core.Path.{_≡_, refl, ap, _∙_}
+use mathlib.Core.Path.{_≡_, refl}
 use Prim.Native.Nat.{ℕ, zero, suc, _+_, _*_, _-_, _≤_, _<_, min}
 use mathlib.Core.Bool.{Bool, true, false, _||_, cond}
 use mathlib.Core.List.{List, [], _∷_, _++_, append-assoc, append-nil}
@@ -63,6 +63,18 @@ deltas-met (s ∷ ss) deltas next =
     rw (deltas-met ss (drop s deltas) next, length-drop, same-test (length deltas - s) (deltaBytes ss) (length deltas) (s + deltaBytes ss) (λ k. omega arith) (λ k. omega arith)))
 
 -- ---- chunks
+-- the counted symbols of a chunk, and those of the chunks after it
+pub chunk-symbols-turn :
+    (a b : ℕ) (chunks : List ℕ) (n : ℕ) →
+    take n (chunkSymbols (a ∷ b ∷ chunks)) ≡ take n (symbolsOf (a * 256 + b)) ++ take (n - symbolCount (a * 256 + b)) (chunkSymbols chunks)
+chunk-symbols-turn a b chunks n =
+    let e : n - min (symbolCount (a * 256 + b)) n ≡ n - symbolCount (a * 256 + b) = omega arith in
+    rw e at (counted-first 0 0 a b chunks n)
+
+pub chunk-bytes-turn : (a b : ℕ) (chunks : List ℕ) (n : ℕ) → 0 < n → chunkBytes (a ∷ b ∷ chunks) n ≡ suc (suc (chunkBytes chunks (n - symbolCount (a * 256 + b))))
+unfolding chunkBytes
+chunk-bytes-turn a b chunks n some = rw (ne-eqb n 0 (λ q. omega arith)) (omega arith)
+
 pub chunk-bytes-most : (chunks : List ℕ) (n : ℕ) → chunkBytes chunks n ≤ length chunks
 unfolding chunkBytes
 chunk-bytes-most [] n = omega arith
@@ -85,31 +97,19 @@ module _ (a b : ℕ) (chunks : List ℕ) (n : ℕ) (read : List ℕ) (next : Lis
   abbrev chunk : ℕ
   chunk = a * 256 + b
 
-  -- the counted symbols of the chunk, and those of the chunks after it
   abbrev here : List ℕ
   here = take n (symbolsOf chunk)
 
   abbrev later : List ℕ
   later = take (n - symbolCount chunk) (chunkSymbols chunks)
 
-  split : take n (chunkSymbols (a ∷ b ∷ chunks)) ≡ here ++ later
-  split =
-      let e : n - min (symbolCount chunk) n ≡ n - symbolCount chunk = omega arith in
-      rw e at (counted-first 0 0 a b chunks n)
-
   shifted : ltb (length (here ++ later)) n ≡ ltb (length later) (n - symbolCount chunk)
   shifted =
       let l = take-length chunk n in
       rw length-append (same-test (length here + length later) n (length later) (n - symbolCount chunk) (λ k. omega arith) (λ k. omega arith))
 
-  past : drop (chunkBytes (a ∷ b ∷ chunks) n) (a ∷ b ∷ chunks) ≡ drop (chunkBytes chunks (n - symbolCount chunk)) chunks
-  unfolding chunkBytes
-  past =
-      let e : 2 + chunkBytes chunks (n - symbolCount chunk) ≡ suc (suc (chunkBytes chunks (n - symbolCount chunk))) = omega arith in
-      rw (ne-eqb n 0 (λ q. omega arith), e)
-
   chunk-met : symbolsInOrder here (byAll chunks (n - symbolCount chunk) (read ++ here) next) ≡ byAll (a ∷ b ∷ chunks) n read next
-  chunk-met = rw (symbols-met, split, past, shifted, any-append, append-assoc) (or-reserved (anyReserved here) (anyReserved later) _)
+  chunk-met = rw (symbols-met, chunk-symbols-turn a b chunks n, chunk-bytes-turn a b chunks n some, shifted, any-append, append-assoc) (or-reserved (anyReserved here) (anyReserved later) _)
 
 chunks-met : (chunks : List ℕ) (n : ℕ) (read : List ℕ) (next : List ℕ → List ℕ → Judged) → chunksInOrder chunks n read next ≡ byAll chunks n read next
 unfolding anyReserved chunkSymbols
@@ -124,15 +124,16 @@ chunks-met (a ∷ b ∷ chunks) (suc n) read next =
 
 -- ---- the message
 module _ (message : List ℕ) (long : headerBytes ≤ length message) where
-  enough : ltb (length (drop (deltasAt message) message)) (deltaBytes (symbols message)) ≡ ltb (length message) (deltasEnd message)
-  enough =
+  -- the deltas are whole where the bytes behind the chunks are enough
+  pub deltas-test : ltb (length (drop (deltasAt message) message)) (deltaBytes (symbols message)) ≡ ltb (length message) (deltasEnd message)
+  deltas-test =
       let l : length (drop headerBytes message) ≡ length message - headerBytes = length-drop headerBytes message in
       let m = chunk-bytes-most (drop headerBytes message) (statusCount message) in
       rw length-drop (same-test (length message - deltasAt message) (deltaBytes (symbols message)) (length message) (deltasEnd message) (λ k. omega arith) (λ k. omega arith))
 
   symbols-judged : chunksInOrder (drop headerBytes message) (statusCount message) [] (λ read deltas. deltasInOrder read deltas (Good (readHeader message))) ≡ judgeSymbols message
   symbols-judged =
-      rw (chunks-met (drop headerBytes message) (statusCount message) [] (λ read deltas. deltasInOrder read deltas (Good (readHeader message))), deltas-met, drop-drop, enough)
+      rw (chunks-met (drop headerBytes message) (statusCount message) [] (λ read deltas. deltasInOrder read deltas (Good (readHeader message))), deltas-met, drop-drop, deltas-test)
 
 pub judged-in-order : (message : List ℕ) → judgeInOrder message ≡ judge message
 unfolding judge

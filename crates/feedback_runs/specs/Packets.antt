@@ -32,13 +32,13 @@ passed : (t : Bool) {x y : Judged} {h : Header} → (x ≡ Good h → ⊥) → c
 passed true not-good e = absurd (not-good e)
 passed false not-good e = (refl, e)
 
-cut-no-yes : {h : Header} → CutShort ≡ Good h → ⊥
+pub cut-no-yes : {h : Header} → CutShort ≡ Good h → ⊥
 cut-no-yes e = let z : _≡_ {A = ℕ} 0 1 = cc in omega arith
 
-reserved-no-yes : {h : Header} → Reserved ≡ Good h → ⊥
+pub reserved-no-yes : {h : Header} → Reserved ≡ Good h → ⊥
 reserved-no-yes e = let z : _≡_ {A = ℕ} 0 1 = cc in omega arith
 
-none-no-yes : {h : Header} → NoStatus ≡ Good h → ⊥
+pub none-no-yes : {h : Header} → NoStatus ≡ Good h → ⊥
 none-no-yes e = let z : _≡_ {A = ℕ} 0 1 = cc in omega arith
 
 pub accepted : (message : List ℕ) (h : Header) → judge message ≡ Good h → Accepted message h
@@ -60,7 +60,9 @@ accepted message h good =
     }
 
 -- ---- the packets
-pub packets-good : (message : List ℕ) (h : Header) → judge message ≡ Good h → packets message ≡ packetsFrom (baseSeq message) (pos 0) (symbols message) (drop (deltasAt message) message)
+pub packets-good :
+    (message : List ℕ) (h : Header) → judge message ≡ Good h →
+    packets message ≡ packetsFrom (baseSeq message) (pos 0) (symbols message) (drop (deltasAt message) message)
 unfolding packets
 packets-good message h good = rw good
 

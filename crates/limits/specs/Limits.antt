@@ -1,4 +1,4 @@
--- Document 01's limits, and document 02's that are in force, as one table, each as the document writes it beside what stands for it in the definitions, and one theorem over its rows: they are equal.
+-- Document 01's limits, and those of order 1 of document 02, as one table, each as the document writes it beside what stands for it in the definitions, and one theorem over its rows: they are equal.
 use Prim.Native.Nat.{ℕ, _+_, _-_, _*_, _^_, _<_}
 use mathlib.Core.Path.{_≡_}
 use mathlib.Core.Bool.{Bool, true, not, _&&_}

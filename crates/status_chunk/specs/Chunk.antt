@@ -43,6 +43,10 @@ twoBit chunk i = chunk / 2 ^ (12 - 2 * i) % 4
 unfoldable pub symbol : ℕ → ℕ → ℕ
 symbol chunk i = cond (ltb chunk statusVector) (chunk / 2 ^ 13) (cond (ltb chunk twoBitVector) (oneBit chunk i) (twoBit chunk i))
 
+-- the first of so many that are left, the first of all where there are not so many
+abbrev pub symbolLeft : ℕ → ℕ → ℕ
+symbolLeft chunk left = symbol chunk (symbolCount chunk - left)
+
 -- n symbols from symbol i on
 unfoldable pub symbolsFrom : ℕ → ℕ → ℕ → List ℕ
 symbolsFrom chunk i zero = []

@@ -1,18 +1,19 @@
 -- `feedback_reader::take` meets its contract: the calls give the parts of the definition.
-use native.Mathlib.Omega.{arith}
 use borrow.Author.Needs.{needs}
-use Rattle.status_chunk.specs.Laws.{count-small}
 use Rattle.feedback_reader.specs.Reader.{taken}
 use Rattle.feedback_reader.proofs.take.Statement.{statement}
 use Rattle.feedback_reader.proofs.take.Tie as tie
 
-add-t8 : tie.Need-add-t8
-add-t8 c = omega (arith, count-small (c .before .before .before .before .args .place .chunk))
-
 returns : tie.Need-returns
 unfolding taken
 returns c =
-    simp (c .packet .ensures, c .before .wrapping-add-u16 .ensures, c .before .before .before .before .before .wrapping-add-u32 .ensures, c .before .before .before .before .before .before .recv-delta .ensures)
+    simp (
+      c .packet .ensures,
+      c .before .wrapping-add-u16 .ensures,
+      c .before .before .before .before .byte-len .ensures,
+      c .before .before .before .before .before .before .wrapping-add-u32 .ensures,
+      c .before .before .before .before .before .before .before .recv-delta .ensures,
+    )
 
 pub take-spec : {M : Type 1} → statement M
-take-spec = tie.close (tie.spec (λ c κs. search needs) (λ c κs. search needs) add-t8 (λ c. search needs) (λ c. search needs) (λ c κs. search needs) (λ c κs. search needs) returns)
+take-spec = tie.close (tie.spec (λ c κs. search needs) (λ c κs. search needs) (λ c. search needs) (λ c κs. search needs) (λ c. search needs) (λ c. search needs) (λ c κs. search needs) (λ c κs. search needs) returns)
