@@ -45,9 +45,9 @@ pub enum Refusal {
     BadNext = 12,
     /// 13: is the output long enough: 65,536 bytes, or 48 a record where the file has more than 1,365?
     ShortOutput = 13,
-    /// 14: are the feedback message's header, its chunks and its deltas whole?
+    /// 14: are the feedback message's header, its chunks up to the status count and their deltas whole?
     CutShort = 14,
-    /// 15: is every symbol up to the status count another than the reserved 3?
+    /// 15: is no counted symbol the reserved 3?
     Reserved = 15,
     /// 16: is the feedback message's status count at least 1?
     NoStatus = 16,
@@ -79,7 +79,7 @@ impl Refusal {
                 "the output is too short: it wants 65,536 bytes, or 48 a record where the file has more than 1,365"
             }
             Refusal::CutShort => "the feedback message is cut short",
-            Refusal::Reserved => "a packet status has the reserved symbol 3",
+            Refusal::Reserved => "a counted symbol of the feedback message is the reserved 3",
             Refusal::NoStatus => "the feedback message has a status count of 0",
         }
     }
