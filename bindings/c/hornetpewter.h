@@ -81,7 +81,7 @@ enum hornetpewter_refusal {
     HORNETPEWTER_BAD_KIND = 11,          /* is a linked record's kind 1 to 3, and a report's flag 0 or 1? */
     HORNETPEWTER_BAD_NEXT = 12,          /* is its next 0, or above its own number and not past the last? */
     HORNETPEWTER_SHORT_OUTPUT = 13,      /* has the output 65,536 bytes, or 48 a record where there are more than 1,365? */
-    HORNETPEWTER_CUT_SHORT = 14,         /* are a feedback message's header, its chunks up to the count and their deltas whole? */
+    HORNETPEWTER_CUT_SHORT = 14,         /* are a feedback message's header, counted chunks and their deltas whole? */
     HORNETPEWTER_RESERVED = 15,          /* is no counted symbol the reserved 3? */
     HORNETPEWTER_NO_STATUS = 16          /* is the status count at least 1? */
 };
