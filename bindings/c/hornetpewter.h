@@ -2,12 +2,13 @@
  * Hornetpewter: the delay estimator of a WebRTC link, for gateways in C and C++. Link with libhornetpewter.a (tools/dist).
  *
  * A link is opened once, then told of each feedback report as it comes, and of time by timeouts; the estimate says how
- * many bits per second (bps) the sender may send.
+ * many bits per second (bps) the sender may send. The feedback message itself, as it comes in RTCP, is read here too.
  *
  * Answers. A call returns 0, or the opposite of the number of the question that turned it down: -6 is
- * -HORNETPEWTER_BAD_SIZE. (In the place of 0 hornetpewter_list returns the listing's length, and hornetpewter_room that of
- * the output.) Questions are put in the order of their numbers, 11 and 12 record by record, and the first no gives the
- * number. After a refusal the link's words and all lent places are as they were, and the link goes on with the next call.
+ * -HORNETPEWTER_BAD_SIZE. (In the place of 0 hornetpewter_list returns the listing's length, hornetpewter_room that of
+ * the output, and hornetpewter_feedback_next a number of packets.) Questions are put in the order of their numbers, 11 and
+ * 12 record by record, 14 to 16 as a message is read, and the first no gives the number. After a refusal the link's words
+ * and all lent places are as they were, and the link goes on with the next call.
  *
  * Clocks. All times are whole nanoseconds (ns) from an origin of the caller's, at most 10^18; the Unix time in ns is past
  * that, so use a monotonic clock or subtract an origin. There are two clocks: `sends`, `receives` and `now` are read from
@@ -19,13 +20,18 @@
  * are turned down with HORNETPEWTER_OUT_OF_RANGE by every call, so that overwritten memory does no harm; but damaged words
  * can still be in range, and are then taken for the link that they make.
  *
- * Threads. The library has no globals and keeps no pointer. Calls on different links may run at the same time; calls on
- * one link may not, so keep a link to one thread, or put a lock of your own around it.
+ * Readers. A reader of a feedback message is plain words too, to copy and keep, with no pointer among them: lend the same
+ * message to every call. There is nothing to close. Words that were overwritten, or are of another message, do no harm: a
+ * call then hands out some packets or none, and touches nothing but the lent places.
+ *
+ * Threads. The library has no globals and keeps no pointer. Calls on different links and readers may run at the same time;
+ * calls on one link or one reader may not, so keep it to one thread, or put a lock of your own around it.
  *
  * Memory. Nothing is allocated. No call needs more than HORNETPEWTER_STACK_BYTES of stack: as measured, open needs up to
- * 4 KB, report 54, timeout 9, read 2, list 61 and room 1. Pointers are valid and aligned for their types, also where a
- * call is refused; a list or a buffer of length 0 may be NULL. What a call writes (the link, the results, the output)
- * overlaps nothing else that is lent to it. The lists of a report are only read and may overlap each other.
+ * 4 KB, report 54, timeout 9, read 2, list 61, room 1, feedback_start 1 and feedback_next 1. Pointers are valid and
+ * aligned for their types, also where a call is refused; a list or a buffer of length 0 may be NULL. What a call writes
+ * (the link, the reader, the results, the output) overlaps nothing else that is lent to it. The lists of a report are only
+ * read and may overlap each other.
  *
  * Machines. The archive is for x86-64 with the System V calling convention (Linux), and needs memcpy and memset.
  * Floats are rounded to nearest and subnormal ones are kept, as a thread has it by default: do not link the gateway with
@@ -48,11 +54,17 @@ extern "C" {
 #define HORNETPEWTER_MOST_RECORDS 65535
 #define HORNETPEWTER_LEAST_OUTPUT 65536  /* bytes of output for hornetpewter_list, enough for up to 1,365 records */
 #define HORNETPEWTER_MOST_OUTPUT 3145680 /* enough for every file */
+#define HORNETPEWTER_READER_WORDS 7
+#define HORNETPEWTER_MOST_STATUSES 65535 /* of a feedback message */
 #define HORNETPEWTER_STACK_BYTES 65536
 
 typedef struct {
     uint64_t words[HORNETPEWTER_LINK_WORDS];
 } hornetpewter_link;
+
+typedef struct {
+    uint64_t words[HORNETPEWTER_READER_WORDS];
+} hornetpewter_feedback_reader;
 
 /* The questions. A call that is turned down returns the opposite of one of these. */
 enum hornetpewter_refusal {
@@ -68,7 +80,10 @@ enum hornetpewter_refusal {
     HORNETPEWTER_BAD_LENGTH = 10,        /* is a pass file's length 48 times 1 to 65,535? */
     HORNETPEWTER_BAD_KIND = 11,          /* is a linked record's kind 1 to 3, and a report's flag 0 or 1? */
     HORNETPEWTER_BAD_NEXT = 12,          /* is its next 0, or above its own number and not past the last? */
-    HORNETPEWTER_SHORT_OUTPUT = 13       /* has the output 65,536 bytes, or 48 a record where there are more than 1,365? */
+    HORNETPEWTER_SHORT_OUTPUT = 13,      /* has the output 65,536 bytes, or 48 a record where there are more than 1,365? */
+    HORNETPEWTER_CUT_SHORT = 14,         /* are a feedback message's header, counted chunks and their deltas whole? */
+    HORNETPEWTER_RESERVED = 15,          /* is no counted symbol the reserved 3? */
+    HORNETPEWTER_NO_STATUS = 16          /* is the status count at least 1? */
 };
 
 /* What the delays say of the path. */
@@ -131,6 +146,41 @@ int64_t hornetpewter_list(const uint8_t *file, size_t file_length, uint8_t *out,
  * 1,365 records, 48 for each that it has, linked or not. Puts question 10.
  */
 int64_t hornetpewter_room(size_t file_length);
+
+/*
+ * Judges a feedback message (transport-wide congestion control, draft-holmer-rmcat-transport-wide-cc-extensions-01) and
+ * starts a reader before its first packet. The message is the part of the RTCP packet after the media source SSRC, without
+ * the padding that the P bit tells of: take that off first, as bytes that are left on would stand in for deltas that were
+ * cut off. Bytes after the last delta are not read. What the reader's words held before does not matter.
+ *
+ * Accepted, it writes the header's numbers: the sequence number of the first packet, how many packets the message tells of
+ * (1 to 65,535), the reference time, signed and in units of 64 ms of the receiver's clock, and the message's own number.
+ * All but the second wrap: unwrap them against those of the messages before. Puts questions 14 to 16 in the order in which
+ * a message is read: the header's 8 bytes (14), its status count (16), the chunks one by one until the count is covered
+ * (14, or 15 where a chunk that is whole has the reserved symbol), then the deltas (14).
+ */
+int64_t hornetpewter_feedback_start(const uint8_t *message, size_t message_length, hornetpewter_feedback_reader *reader,
+                                    uint16_t *base_seq, uint16_t *status_count, int32_t *reference_time,
+                                    uint8_t *feedback_count);
+
+/*
+ * Hands out the next packets of the message, as many as are left and both lists have places for, and returns how many.
+ * `sequence` gets the sequence number of the first; those of the others follow it one by one modulo 65,536. Of packet i,
+ * `statuses` gets 1 (received) or 0 (not received), and `ticks` when it arrived, in units of 250 us from the reference
+ * time, below 0 before that, and 0 where it was not received. Places of the lists after these are as they were. Where none
+ * is left it returns 0, however often it is called, and changes nothing; nor does it where a list has no place. It puts no
+ * question.
+ *
+ *     static uint8_t statuses[HORNETPEWTER_MOST_STATUSES];
+ *     static int32_t ticks[HORNETPEWTER_MOST_STATUSES];
+ *     if (hornetpewter_feedback_start(message, length, &reader, &base_seq, &count, &reference_time, &feedback_count) == 0)
+ *         hornetpewter_feedback_next(message, length, &reader, &sequence, statuses, count, ticks, count);
+ *
+ * reads a message at once; gateway.c reads it in parts, each for one report.
+ */
+int64_t hornetpewter_feedback_next(const uint8_t *message, size_t message_length, hornetpewter_feedback_reader *reader,
+                                   uint16_t *sequence, uint8_t *statuses, size_t statuses_length,
+                                   int32_t *ticks, size_t ticks_length);
 
 #ifdef __cplusplus
 }

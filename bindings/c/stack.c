@@ -12,7 +12,8 @@
 #define MS UINT64_C(1000000)
 
 const char *const stack_call[STACK_CALLS] = {"hornetpewter_open", "hornetpewter_report", "hornetpewter_timeout",
-                                             "hornetpewter_read", "hornetpewter_list",   "hornetpewter_room"};
+                                             "hornetpewter_read", "hornetpewter_list",   "hornetpewter_room",
+                                             "hornetpewter_feedback_start", "hornetpewter_feedback_next"};
 
 /* What the calls are given. */
 static hornetpewter_link link_;
@@ -20,6 +21,10 @@ static uint64_t lists[5][HORNETPEWTER_MOST_PACKETS], next_timeout;
 static uint8_t file[HORNETPEWTER_MOST_RECORDS * HORNETPEWTER_RECORD_BYTES], out[HORNETPEWTER_MOST_OUTPUT];
 static double bitrate, threshold;
 static uint32_t hypothesis;
+static uint8_t message[8 + 4 * HORNETPEWTER_MOST_STATUSES], statuses[HORNETPEWTER_MOST_STATUSES], feedback_count;
+static int32_t reference_time, ticks[HORNETPEWTER_MOST_STATUSES];
+static uint16_t base_seq, status_count, sequence;
+static hornetpewter_feedback_reader reader;
 
 /* 1,024 packets, the last received first, with a queue that grows and drains. */
 static void fill_lists(void)
@@ -54,6 +59,16 @@ static void fill_file(void)
     }
 }
 
+/* A feedback message of 65,535 packets, each in a chunk of its own and with a large delta. */
+static void fill_message(void)
+{
+    message[2] = message[3] = 0xff;
+    for (size_t i = 0; i < HORNETPEWTER_MOST_STATUSES; i++) {
+        message[8 + 2 * i] = 0x40;
+        message[9 + 2 * i] = 1;
+    }
+}
+
 static int64_t call(int which)
 {
     const size_t n = HORNETPEWTER_MOST_PACKETS;
@@ -68,8 +83,13 @@ static int64_t call(int which)
         return hornetpewter_read(&link_, &bitrate, &hypothesis, &next_timeout, &threshold);
     case 4:
         return hornetpewter_list(file, sizeof file, out, sizeof out) > 0 ? 0 : -1;
-    default:
+    case 5:
         return hornetpewter_room(sizeof file) == sizeof out ? 0 : -1;
+    case 6:
+        return hornetpewter_feedback_start(message, sizeof message, &reader, &base_seq, &status_count, &reference_time, &feedback_count);
+    default:
+        return hornetpewter_feedback_next(message, sizeof message, &reader, &sequence, statuses, sizeof statuses, ticks, HORNETPEWTER_MOST_STATUSES)
+                == HORNETPEWTER_MOST_STATUSES ? 0 : -1;
     }
 }
 
@@ -107,6 +127,7 @@ int stack_needs(size_t need[STACK_CALLS])
         return 1;
     fill_lists();
     fill_file();
+    fill_message();
     for (int k = 0; k < STACK_CALLS; k++)
         need[k] = depth(k, stack);
     for (int k = 0; k < STACK_CALLS; k++) /* again, now that the loader has looked up what the calls need of the C library */

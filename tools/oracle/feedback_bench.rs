@@ -17,7 +17,28 @@ unsafe extern "C" {
         reference_time: *mut i32,
         feedback_count: *mut u8,
     ) -> i64;
-    fn hornetpewter_feedback_next(message: *const u8, length: usize, reader: *mut [u64; 7], sequence: *mut u16, ticks: *mut i32) -> i64;
+    fn hornetpewter_feedback_next(
+        message: *const u8,
+        length: usize,
+        reader: *mut [u64; 7],
+        sequence: *mut u16,
+        statuses: *mut u8,
+        statuses_length: usize,
+        ticks: *mut i32,
+        ticks_length: usize,
+    ) -> i64;
+}
+
+/// What a gateway keeps to read messages with: lists of so many packets.
+struct Lists {
+    statuses: Vec<u8>,
+    ticks: Vec<i32>,
+}
+
+impl Lists {
+    fn of(packets: usize) -> Self {
+        Lists { statuses: vec![0; packets], ticks: vec![0; packets] }
+    }
 }
 
 /// As receivers write them: bursts of one to eight packets, 0 to 3 ticks apart, 20 to 79 between bursts. The typical message has 3 of 50 lost and no large delta; the others have
@@ -39,14 +60,20 @@ fn start(message: &[u8], reader: &mut [u64; 7]) -> Header {
     h
 }
 
-fn ours(message: &[u8], mut told: impl FnMut(Packet)) -> Header {
-    let (mut reader, mut sequence, mut ticks) = ([0; 7], 0, 0);
+/// All packets, as many a call as the lists have places for.
+fn ours(message: &[u8], lists: &mut Lists, mut told: impl FnMut(Packet)) -> Header {
+    let (mut reader, mut sequence) = ([0; 7], 0);
     let header = start(message, &mut reader);
+    let (statuses, ticks) = (&mut lists.statuses, &mut lists.ticks);
     loop {
-        match unsafe { hornetpewter_feedback_next(message.as_ptr(), message.len(), &mut reader, &mut sequence, &mut ticks) } {
-            0 => return header,
-            1 => told((sequence, None)),
-            _ => told((sequence, Some(ticks))),
+        let (s, t) = (statuses.as_mut_ptr(), ticks.as_mut_ptr());
+        let n = unsafe { hornetpewter_feedback_next(message.as_ptr(), message.len(), &mut reader, &mut sequence, s, statuses.len(), t, ticks.len()) };
+        if n == 0 {
+            return header;
+        }
+        for (status, ticks) in statuses.iter().zip(&*ticks).take(n as usize) {
+            told((sequence, if *status == 0 { None } else { Some(*ticks) }));
+            sequence = sequence.wrapping_add(1);
         }
     }
 }
@@ -66,49 +93,68 @@ fn timed(turns: usize, mut read: impl FnMut()) -> f64 {
     start.elapsed().as_nanos() as f64 / turns as f64
 }
 
-/// Prints two lines a message: its packets, its judgements, and the least time on both sides, in ns, of judging or parsing it alone and then of that with all its packets.
+/// Prints three lines a message: its packets, its calls of ours, and the least time on both sides, in ns, of judging or parsing it alone, of that with all its packets, ours handed out
+/// by one call, and of the same with a call for each packet.
 pub fn times(rounds: u32) {
+    let (mut whole, mut one) = (Lists::of(65_535), Lists::of(1));
     for (name, message) in messages() {
-        let whole = [&[0; 8], &message[..]].concat();
-        let mut packets = vec![];
-        let header = ours(&message, |p| packets.push(p));
-        let n = packets.len();
-        let said = Answer::Told(header, packets);
-        assert!(said == feedback::rust(&message), "{name}: the two sides differ");
-        assert!(said == feedback::read(&message, Parts::default()), "{name}: not as document 02 has it");
+        let with_identifiers = [&[0; 8], &message[..]].concat();
+        let n = check(name, &message, &mut [&mut whole, &mut one]);
         let (turns, zero, mut reader) = (1 + 20_000 / n, time_zero(), [0; 7]);
-        let mut least = [f64::INFINITY; 4];
+        let mut least = [f64::INFINITY; 5];
         for _ in 0..rounds {
             let times = [
                 timed(turns, || {
                     black_box(start(black_box(&message), &mut reader));
                 }),
                 timed(turns, || {
-                    black_box(Twcc::try_from(black_box(&whole[..])).unwrap());
+                    black_box(Twcc::try_from(black_box(&with_identifiers[..])).unwrap());
                 }),
                 timed(turns, || {
-                    ours(black_box(&message), |p| {
+                    ours(black_box(&message), &mut whole, |p| {
                         black_box(p);
                     });
                 }),
-                timed(turns, || rust(black_box(&whole), zero)),
+                timed(turns, || {
+                    ours(black_box(&message), &mut one, |p| {
+                        black_box(p);
+                    });
+                }),
+                timed(turns, || rust(black_box(&with_identifiers), zero)),
             ];
             least = std::array::from_fn(|i| least[i].min(times[i]));
         }
         println!("{name}\t0\t1\t{}\t{}", least[0], least[1]);
-        println!("{name}\t{n}\t1\t{}\t{}", least[2], least[3]);
+        println!("{name}\t{n}\t1\t{}\t{}", least[2], least[4]);
+        println!("{name}\t{n}\t{n}\t{}\t{}", least[3], least[4]);
     }
+}
+
+/// With each of the lists ours tells what the Rust does, and what document 02 says. Gives the number of packets.
+fn check(name: &str, message: &[u8], lists: &mut [&mut Lists]) -> usize {
+    let mut n = 0;
+    for lists in lists {
+        let mut packets = vec![];
+        let header = ours(message, lists, |p| packets.push(p));
+        n = packets.len();
+        let said = Answer::Told(header, packets);
+        assert!(said == feedback::rust(message), "{name}: the two sides differ");
+        assert!(said == feedback::read(message, Parts::default()), "{name}: not as document 02 has it");
+    }
+    n
 }
 
 /// The least times of several processes. The packets' own time is what reading takes beyond judging.
 pub fn bench(processes: u32, rounds: u32) {
-    println!("\n{:<24} {:>7} {:>26} {:>26} {:>26}", "", "", "judging, ns", "handing out, ns a packet", "both, ns a packet");
-    println!("{:<24} {:>7}{}", "feedback message", "packets", format!(" {:>9} {:>9} {:>6}", "ours", "Rust", "ratio").repeat(3));
-    for two in least("feedback_times", processes, rounds).chunks(2) {
-        let ((name, _, _, judge, parse), (_, packets, _, ours, rust)) = (&two[0], &two[1]);
-        let n = *packets as f64;
-        let times = [(*judge, *parse), ((ours - judge) / n, (rust - parse) / n), (ours / n, rust / n)];
-        let columns: String = times.iter().map(|(a, b)| format!(" {a:>9.1} {b:>9.1} {:>6.2}", a / b)).collect();
-        println!("{name:<24} {packets:>7}{columns}");
+    println!("\n{:<24} {:>7} {:>7} {:>26} {:>26} {:>26}", "", "", "packets", "judging, ns", "handing out, ns a packet", "both, ns a packet");
+    println!("{:<24} {:>7} {:>7}{}", "feedback message", "packets", "a call", format!(" {:>9} {:>9} {:>6}", "ours", "Rust", "ratio").repeat(3));
+    for three in least("feedback_times", processes, rounds).chunks(3) {
+        let (name, _, _, judge, parse) = &three[0];
+        for (_, packets, calls, ours, rust) in &three[1..] {
+            let n = *packets as f64;
+            let times = [(*judge, *parse), ((ours - judge) / n, (rust - parse) / n), (ours / n, rust / n)];
+            let columns: String = times.iter().map(|(a, b)| format!(" {a:>9.1} {b:>9.1} {:>6.2}", a / b)).collect();
+            println!("{name:<24} {packets:>7} {:>7}{columns}", packets / calls);
+        }
     }
 }

@@ -2,9 +2,14 @@
 
 use core::mem::MaybeUninit;
 
-use crate::{BandwidthUsage, Estimate, LINK_WORDS, MOST_PACKETS, Packet, Reading, Refusal};
+use crate::{
+    BandwidthUsage, Estimate, FeedbackHeader, LINK_WORDS, MOST_PACKETS, Packet, Reading, Refusal,
+};
 
 type Words = [u64; LINK_WORDS];
+
+/// The words of a feedback message's reader.
+pub type Reader = [u64; 7];
 
 // The functions are proved to demand nothing of their caller but what C's types leave unsaid: that
 // the places lent to a call are there, and that none that is written overlaps another. References
@@ -61,9 +66,30 @@ unsafe extern "C" {
     ) -> i64;
 
     safe fn hornetpewter_room(file_length: usize) -> i64;
+
+    fn hornetpewter_feedback_start(
+        message: *const u8,
+        message_length: usize,
+        reader: &mut Reader,
+        base_seq: &mut u16,
+        status_count: &mut u16,
+        reference_time: &mut i32,
+        feedback_count: &mut u8,
+    ) -> i64;
+
+    fn hornetpewter_feedback_next(
+        message: *const u8,
+        message_length: usize,
+        reader: &mut Reader,
+        sequence: &mut u16,
+        statuses: *mut u8,
+        statuses_length: usize,
+        ticks: *mut i32,
+        ticks_length: usize,
+    ) -> i64;
 }
 
-/// The refusal of a code below 0. The archive is proved to return 0, a length, or -1 to -13, so the
+/// The refusal of a code below 0. The archive is proved to return 0, a length, or -1 to -16, so the
 /// last arm has only -1 to meet. It takes every other number too, and does not panic: whoever reads
 /// `OutOfRange` opens the link anew, which is also right if the archive should be another one.
 fn refusal(code: i64) -> Refusal {
@@ -80,6 +106,9 @@ fn refusal(code: i64) -> Refusal {
         -11 => Refusal::BadKind,
         -12 => Refusal::BadNext,
         -13 => Refusal::ShortOutput,
+        -14 => Refusal::CutShort,
+        -15 => Refusal::Reserved,
+        -16 => Refusal::NoStatus,
         _ => Refusal::OutOfRange,
     }
 }
@@ -226,4 +255,53 @@ pub fn list(file: &[u8], out: &mut [u8]) -> Result<usize, Refusal> {
 
 pub fn room(file_length: usize) -> Result<usize, Refusal> {
     length(hornetpewter_room(file_length))
+}
+
+pub fn feedback_start(message: &[u8]) -> Result<(Reader, FeedbackHeader), Refusal> {
+    let mut reader = [0; 7];
+    let mut header = FeedbackHeader {
+        base_seq: 0,
+        status_count: 0,
+        reference_time: 0,
+        feedback_count: 0,
+    };
+    // SAFETY: the pointer and the length are those of a slice.
+    let code = unsafe {
+        hornetpewter_feedback_start(
+            message.as_ptr(),
+            message.len(),
+            &mut reader,
+            &mut header.base_seq,
+            &mut header.status_count,
+            &mut header.reference_time,
+            &mut header.feedback_count,
+        )
+    };
+    accepted(code)?;
+    Ok((reader, header))
+}
+
+/// How many packets there are now in the lists, of which `sequence` is the first one's number.
+pub fn feedback_next(
+    message: &[u8],
+    reader: &mut Reader,
+    sequence: &mut u16,
+    statuses: &mut [u8],
+    ticks: &mut [i32],
+) -> usize {
+    // SAFETY: the pointers and lengths are those of slices, and the two lists are borrowed by nobody
+    // else.
+    let code = unsafe {
+        hornetpewter_feedback_next(
+            message.as_ptr(),
+            message.len(),
+            reader,
+            sequence,
+            statuses.as_mut_ptr(),
+            statuses.len(),
+            ticks.as_mut_ptr(),
+            ticks.len(),
+        )
+    };
+    length(code).unwrap_or(0)
 }

@@ -24,6 +24,8 @@
 //! # Ok::<(), Refusal>(())
 //! ```
 //!
+//! A report's packets come from a feedback message, which [`Feedback`] reads.
+//!
 //! # Instants and the two clocks
 //!
 //! Instants are whole ns from an origin of the caller's, up to 10^18 (31 years). There are two clocks,
@@ -40,7 +42,8 @@
 //!
 //! # When to call
 //!
-//! - [`Link::report`] with each feedback message, also with one whose packets were all lost;
+//! - [`Link::report`] with the packets of each feedback message that were received, also where all
+//!   were lost;
 //! - [`Link::timeout`] once the last estimate's `next_timeout` is reached. It is 0 before the first
 //!   call, which means due.
 //!
@@ -71,7 +74,8 @@
 //! loaded again. The library has no state of its own, so links can be called on as many threads as
 //! there are links. Nothing is allocated. A thread with a stack of 128 KiB can make every call: a
 //! report takes some 95,000 bytes of it (104,000 unoptimised), of which 41,000 are a copy of the
-//! packets, [`list`] 61,000, the other calls less than 8,000.
+//! packets, [`list`] 61,000, the other calls less than 8,000. A [`Feedback`] is some 450 bytes and
+//! borrows its message.
 #![no_std]
 #![deny(missing_docs)]
 #![deny(unsafe_code)]
@@ -79,10 +83,12 @@
 use core::fmt;
 use core::time::Duration;
 
+mod feedback;
 #[allow(unsafe_code)]
 mod ffi;
 mod refusal;
 
+pub use feedback::{Feedback, FeedbackHeader, FeedbackPacket};
 pub use refusal::Refusal;
 
 /// How many numbers a [`Link`] is.

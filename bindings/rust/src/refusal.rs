@@ -45,10 +45,16 @@ pub enum Refusal {
     BadNext = 12,
     /// 13: is the output long enough: 65,536 bytes, or 48 a record where the file has more than 1,365?
     ShortOutput = 13,
+    /// 14: are the feedback message's header, its chunks up to the status count and their deltas whole?
+    CutShort = 14,
+    /// 15: is no counted symbol the reserved 3?
+    Reserved = 15,
+    /// 16: is the feedback message's status count at least 1?
+    NoStatus = 16,
 }
 
 impl Refusal {
-    /// The question's number, 1 to 13.
+    /// The question's number, 1 to 16.
     #[must_use]
     pub const fn number(self) -> u8 {
         self as u8
@@ -72,6 +78,9 @@ impl Refusal {
             Refusal::ShortOutput => {
                 "the output is too short: it wants 65,536 bytes, or 48 a record where the file has more than 1,365"
             }
+            Refusal::CutShort => "the feedback message is cut short",
+            Refusal::Reserved => "a counted symbol of the feedback message is the reserved 3",
+            Refusal::NoStatus => "the feedback message has a status count of 0",
         }
     }
 }

@@ -2,7 +2,7 @@
 use std::time::Duration;
 
 use hornetpewter::{
-    BandwidthUsage, Estimate, LEAST_OUTPUT, LINK_WORDS, Link, MOST_OUTPUT, MOST_PACKETS,
+    BandwidthUsage, Estimate, Feedback, LEAST_OUTPUT, LINK_WORDS, Link, MOST_OUTPUT, MOST_PACKETS,
     MOST_RECORDS, Packet, Refusal, list, room, whole_ms, whole_ns,
 };
 
@@ -89,9 +89,12 @@ fn each_question_has_its_number() {
         unlisted(&record(0, 4, 0), LEAST_OUTPUT),
         unlisted(&record(1, 3, 0), LEAST_OUTPUT),
         unlisted(&record(0, 3, 0), LEAST_OUTPUT - 1),
+        Feedback::read(&[0; 7]).unwrap_err(),
+        Feedback::read(&[0, 0, 0, 1, 0, 0, 0, 0, 0x60, 1]).unwrap_err(),
+        Feedback::read(&[0; 8]).unwrap_err(),
     ];
     let numbers: Vec<u8> = refusals.iter().map(|refusal| refusal.number()).collect();
-    assert_eq!(numbers, (1..=13).collect::<Vec<u8>>());
+    assert_eq!(numbers, (1..=16).collect::<Vec<u8>>());
 }
 
 #[test]

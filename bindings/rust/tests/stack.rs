@@ -1,7 +1,7 @@
 //! Every call on a thread with a small stack.
 use std::thread;
 
-use hornetpewter::{LEAST_OUTPUT, Link, MOST_PACKETS, Packet, list, room};
+use hornetpewter::{Feedback, LEAST_OUTPUT, Link, MOST_PACKETS, Packet, list, room};
 
 const MS: u64 = 1_000_000;
 const STACK: usize = 128 << 10;
@@ -23,6 +23,8 @@ fn every_call(packets: &[Packet], out: &mut [u8]) -> usize {
     link.report(packets, None, 6000 * MS).unwrap();
     link.timeout(6025 * MS).unwrap();
     link.read().unwrap();
+    let lost = [0, 0, 0x1f, 0xff, 0, 0, 0, 0, 0x1f, 0xff];
+    assert_eq!(Feedback::read(&lost).unwrap().count(), 8_191);
     let mut file = [0; 48];
     file[4] = 2;
     assert_eq!(room(file.len()), Ok(out.len()));

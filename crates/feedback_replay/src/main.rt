@@ -109,6 +109,22 @@ fn is_none(packet: OptionPacket) -> bool {
     }
 }
 
+// The start of a reader that holds the message.
+fn start_by_reader(message: &[u8]) -> CursorStart {
+    let started = FeedbackReader::start(message);
+    CursorStart {
+        judged: started.judged,
+        next_chunk: started.reader.next_chunk,
+        cursor: started.reader.cursor,
+    }
+}
+
+// What a reader that holds the message says of its header.
+fn header_by_reader(message: &[u8]) -> Header {
+    let started = FeedbackReader::start(message);
+    started.reader.header()
+}
+
 // A step by a reader that holds the message.
 fn next_by_reader(message: &[u8], next_chunk: usize, cursor: Cursor) -> CursorStep {
     let step = FeedbackReader {
@@ -165,13 +181,21 @@ fn hands_out_all(
     same & none_left(message, next_chunk, cursor, by_reader)
 }
 
+// Whether a reader that holds the message judges, starts and hands out as told, and says the header of a good one.
+fn compared_by_reader(c: Case, message: &[u8], told: &[u8]) -> bool {
+    let started = start_by_reader(message);
+    let judged = started.judged;
+    let same_header = (c.number != 0) || accepted(c, header_by_reader(message));
+    agrees(c, judged) & same_header & hands_out_all(message, started, told, packets(c), true)
+}
+
 fn compared(c: Case, message: &[u8], told: &[u8]) -> bool {
     let started = feedback_reader::start(message);
     let judged = started.judged;
     agrees(c, twcc::judge(message))
         & agrees(c, judged)
         & hands_out_all(message, started, told, packets(c), false)
-        & hands_out_all(message, started, told, packets(c), true)
+        & compared_by_reader(c, message, told)
 }
 
 // Reads a case's message and packets and compares. What is cut short or too long differs.

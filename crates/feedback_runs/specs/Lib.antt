@@ -6,3 +6,4 @@ pub mod Rows
 pub mod Ticks
 pub mod Handing
 pub mod Statement
+pub mod InLists

@@ -16,11 +16,13 @@ use Rattle.feedback_reader.specs.Reader.{start, readerStart, readerNext}
 use Rattle.feedback_reader.specs.declared.FeedbackReader.{FeedbackReader}
 use Rattle.feedback_reader.specs.declared.OptionPacket.{OptionPacket}
 use Rattle.feedback_reader.specs.declared.OptionPacket.the-variants.{None, Some}
+use Rattle.feedback_lists.specs.Lists.{nextPackets}
 use Rattle.feedback_runs.specs.Packets.{accepted, sequenceOf, packets-refused, packets-count, packets-sequence}
 use Rattle.feedback_runs.specs.InOrder.{judgeInOrder, judged-in-order}
 use Rattle.feedback_runs.specs.Questions.{Says, judgement-says}
 use Rattle.feedback_runs.specs.Unread.{SameReading, ChunksAlike, after-last-delta, same-counted-symbols}
 use Rattle.feedback_runs.specs.Handing.{answersAt, all-handed}
+use Rattle.feedback_runs.specs.InLists.{first-packets}
 
 -- the first n answers of a reader, each step taking the reader that the step before gave back
 unfoldable pub answers : ℕ → FeedbackReader → List OptionPacket
@@ -33,6 +35,8 @@ pub record Reading (message : RefT (List ℕ)) (m : List ℕ) : Type 0 where
   pub judged : readerStart message .judged ≡ judge m
   -- its answers are the packets of the message, each once, in order, and then that none is left, for ever
   pub handed : (k : ℕ) → answers (length (packets m) + k) (readerStart message .reader) ≡ map Some (packets m) ++ replicate k None
+  -- and n of them handed out to lists are the first n
+  pub in-lists : (n : ℕ) → nextPackets n m (start m .«next_chunk») (start m .cursor) ≡ take n (packets m)
   -- a good message tells its header's numbers, and has as many packets as its status count, in sequence order modulo 65,536
   pub header : (h : Header) → judge m ≡ Good h → h ≡ readHeader m
   pub count : (h : Header) → judge m ≡ Good h → length (packets m) ≡ h .«status_count»
@@ -60,6 +64,7 @@ reading message bytes =
     record {
       judged = judged-is m;
       handed = λ k. reader-answers (length (packets m) + k) (readerStart message .reader) ∙ all-handed m k bytes;
+      in-lists = λ n. first-packets n m bytes;
       header = λ h good. accepted m h good .told;
       count = λ h good. packets-count m h good ∙ ap (λ (x : Header). x .«status_count») (sym (accepted m h good .told));
       sequence = λ h good i l. rw (accepted m h good .told) (packets-sequence m h bytes good i (rw (accepted m h good .told) at l));

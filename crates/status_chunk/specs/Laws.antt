@@ -13,7 +13,7 @@ use lib.Seq.{take-nil}
 use lib.Pow.{field, shr-shr, mod-mod-pow}
 use borrow.Author.Tests.{lt-ltb, le-ltb, ltb-true, ltb-false, eq-eqb, ne-eqb}
 use Rattle.bool_laws.specs.Bools.{cases}
-use Rattle.status_chunk.specs.Chunk.{statusVector, twoBitVector, reserved, symbolCount, symbol, symbolsFrom, symbolsOf, deltaBytes, anyReserved}
+use Rattle.status_chunk.specs.Chunk.{statusVector, twoBitVector, reserved, twoBit, symbolCount, symbol, symbolsFrom, symbolsOf, deltaBytes, anyReserved}
 
 -- ---- how many symbols
 pub count-one-bit : (chunk : ℕ) → statusVector ≤ chunk → chunk < twoBitVector → symbolCount chunk ≡ 14
@@ -137,6 +137,11 @@ run-reserved chunk i (suc n) h =
     go true u = refl
     go false true = refl
     go false false = refl
+
+-- ---- a vector of two-bit symbols
+pub two-bit-symbol : (chunk i : ℕ) → twoBitVector ≤ chunk → symbol chunk i ≡ twoBit chunk i
+unfolding symbol
+two-bit-symbol chunk i h = rw (le-ltb chunk statusVector (omega arith), le-ltb chunk twoBitVector h)
 
 -- ---- a vector of one-bit symbols
 module _ (chunk : ℕ) (vector : statusVector ≤ chunk) (one : chunk < twoBitVector) where

@@ -25,37 +25,6 @@ pub fn symbol_count(chunk: u16) -> u16
     7
 }
 
-// Symbol i of a chunk. Past the last one it is the low bits of a vector.
-pub fn symbol(chunk: u16, i: u16) -> u16
-    ensures { λ r. ⌜ r ≡ Chunk.symbol chunk i ⌝ }
-{
-    if chunk < STATUS_VECTOR {
-        return chunk / 8192;
-    }
-    if chunk < TWO_BIT_VECTOR {
-        return one_bit(chunk, i);
-    }
-    two_bit(chunk, i)
-}
-
-fn one_bit(chunk: u16, i: u16) -> u16
-    ensures { λ r. ⌜ r ≡ Chunk.oneBit chunk i ⌝ }
-{
-    if i < 13 {
-        return (chunk >> (13 - i)) % 2;
-    }
-    chunk % 2
-}
-
-fn two_bit(chunk: u16, i: u16) -> u16
-    ensures { λ r. ⌜ r ≡ Chunk.twoBit chunk i ⌝ }
-{
-    if i < 6 {
-        return (chunk >> (12 - 2 * i)) % 4;
-    }
-    chunk % 4
-}
-
 // The first of so many symbols that are left of a chunk; the first of all where it has not so many.
 pub fn symbol_left(chunk: u16, left: u16) -> u16
     ensures { λ r. ⌜ r ≡ Chunk.symbolLeft chunk left ⌝ }
@@ -118,7 +87,7 @@ pub fn delta_bytes(chunk: u16, n: u16) -> usize
     two_bit_bytes(chunk, all)
 }
 
-// The same of a vector of one-bit symbols.
+// The bytes of a vector of one-bit symbols: its ones.
 fn ones(chunk: u16, n: u16) -> usize
     requires { ⌜ (Chunk.statusVector ≤ chunk) × ((chunk < Chunk.twoBitVector) × (n ≤ 14)) ⌝ }
     ensures { λ r. ⌜ r ≡ Chunk.deltaBytes (Chunk.symbolsFrom chunk 0 n) ⌝ }
@@ -126,14 +95,25 @@ fn ones(chunk: u16, n: u16) -> usize
     u16::count_ones(chunk % 16384 >> (14 - n)) as usize
 }
 
-// The same of a vector of two-bit symbols.
+// Symbol i of a vector of two-bit symbols. From the last on it is the lowest two bits.
+fn two_bit(chunk: u16, i: u16) -> u16
+    ensures { λ r. ⌜ r ≡ Chunk.twoBit chunk i ⌝ }
+{
+    if i < 6 {
+        return (chunk >> (12 - 2 * i)) % 4;
+    }
+    chunk % 4
+}
+
+// The bytes of a vector of two-bit symbols.
 fn two_bit_bytes(chunk: u16, n: u16) -> usize
+    requires { ⌜ Chunk.twoBitVector ≤ chunk ⌝ }
     ensures { λ r. ⌜ r ≡ Chunk.deltaBytes (Chunk.symbolsFrom chunk 0 n) ⌝ }
 {
     let mut bytes: usize = 0;
     let mut i: u16 = 0;
     while i < n {
-        bytes += symbol(chunk, i) as usize;
+        bytes += two_bit(chunk, i) as usize;
         i += 1;
     }
     bytes
@@ -155,11 +135,12 @@ pub fn any_reserved(chunk: u16, n: u16) -> bool
 
 // The same of a vector of two-bit symbols.
 fn two_bit_reserved(chunk: u16, n: u16) -> bool
+    requires { ⌜ Chunk.twoBitVector ≤ chunk ⌝ }
     ensures { λ r. ⌜ r ≡ Chunk.anyReserved (Chunk.symbolsFrom chunk 0 n) ⌝ }
 {
     let mut i: u16 = 0;
     while i < n {
-        if symbol(chunk, i) == RESERVED {
+        if two_bit(chunk, i) == RESERVED {
             return true;
         }
         i += 1;

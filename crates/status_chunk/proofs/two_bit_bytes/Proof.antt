@@ -1,11 +1,11 @@
 -- `status_chunk::two_bit_bytes` meets its contract. The loop's invariant: the bytes counted, and those of the symbols left, are those of all.
 use Prim.Native.Nat.{_+_, _*_, _-_, _≤_}
-use mathlib.Core.Path.{_≡_}
+use mathlib.Core.Path.{_≡_, sym, _∙_}
 use native.Mathlib.Nat.{sub-zero}
 use native.Mathlib.Omega.{arith}
 use borrow.Author.Needs.{needs}
-use Rattle.status_chunk.specs.Chunk.{symbolsFrom, deltaBytes}
-use Rattle.status_chunk.specs.Laws.{symbol-small, delta-bytes-turn, symbols-end}
+use Rattle.status_chunk.specs.Chunk.{symbol, symbolsFrom, deltaBytes}
+use Rattle.status_chunk.specs.Laws.{two-bit-symbol, delta-bytes-turn, symbols-end}
 use Rattle.status_chunk.proofs.two_bit_bytes.Statement.{statement}
 use Rattle.status_chunk.proofs.two_bit_bytes.Tie as tie
 
@@ -15,8 +15,11 @@ Inv-loop chunk n bytes₀ i₀ bytes i = (i ≤ n) × ((bytes ≤ 3 * i) × (byt
 abbrev μ-loop : tie.MeasureT-loop
 μ-loop chunk n bytes₀ i₀ bytes i = n - i
 
-small : (c : tie.After-symbol Inv-loop μ-loop) → c .symbol .result ≤ 3
-small c = omega (arith, symbol-small (c .before .before .before .args .chunk) (c .before .before .loop .i) (omega arith))
+is-symbol : (c : tie.After-two-bit Inv-loop μ-loop) → c .two-bit .result ≡ symbol (c .before .before .before .args .chunk) (c .before .before .loop .i)
+is-symbol c = c .two-bit .ensures ∙ sym (two-bit-symbol _ _ (omega arith))
+
+small : (c : tie.After-two-bit Inv-loop μ-loop) → c .two-bit .result ≤ 3
+small c = omega arith
 
 loop-holds : tie.Need-loop-holds Inv-loop μ-loop
 loop-holds c = (omega arith, (omega arith, simp sub-zero (omega arith)))
@@ -34,7 +37,7 @@ loop-less : tie.Need-loop-less Inv-loop μ-loop
 loop-less c = omega arith
 
 loop-again : tie.Need-loop-again Inv-loop μ-loop
-loop-again c = (omega arith, (omega (arith, small c), rw (c .symbol .ensures) (delta-bytes-turn _ _ _ _ _ (c .before .loop-test .taken) (c .before .before .loop .inv .1 .1))))
+loop-again c = (omega arith, (omega (arith, small c), rw (is-symbol c) (delta-bytes-turn _ _ _ _ _ (c .before .loop-test .taken) (c .before .before .loop .inv .1 .1))))
 
 returns : tie.Need-returns Inv-loop μ-loop
 unfolding deltaBytes

@@ -1,5 +1,5 @@
--- `feedback::next` meets its contract: a walk of its MIR, by hand. The struct is taken apart, `step` is called on the slice, the place and the numbers, and a struct is made that holds the reader moved on, and the step.
--- The struct is Copy: what it owns is had twice, one copy is kept whole for the exit, and of the other what src owns is had twice, for the callee and for the result.
+-- `feedback_reader::FeedbackReader::next` meets its contract: a walk of its MIR, by hand. The struct is taken apart, `step` is called on the slice, the place and the numbers, and a struct is made that holds the reader moved on, and the step.
+-- The struct is Copy: what it owns is had twice, one copy is kept whole for the exit, and of the other what the slice owns is had twice, for the callee and for the result.
 -- Assumes nothing.
 use mathlib.Core.Path.{_≡_, refl, ap, subst}
 use mathlib.Core.List.{List, [], _∷_}
@@ -91,7 +91,7 @@ module _ {M : Type 1} (𝓤 : URA M) (H : Heap 𝓤) (A : Atoms 𝓤) (W : Given
   abbrev mach : Val
   mach = T′.lowered d
 
-  -- the machine value of src
+  -- the machine value of the slice
   abbrev v : Val
   v = sliceVal (d .message .ptr) (length (d .message .now))
 
@@ -135,14 +135,14 @@ module _ {M : Type 1} (𝓤 : URA M) (H : Heap 𝓤) (A : Atoms 𝓤) (W : Given
   asked : ent 𝓤 (onEntry 𝓤 H A step.signature (κ, tt) (q, tt) (d .message, (d .«next_chunk», (d .cursor, tt))) passed) (StepAt 𝓤 H A mem run .pre to)
   asked = qed W ((‵ (flft κ q) ⊛ ‵ ftrue) ∷ ‵ (owns (ShrSlice (named 0) κ u8 ∷ usize ∷ R.the-row ∷ []) (d .message, (d .«next_chunk», (d .cursor, tt))) passed) ∷ []) ∵ join ! $ frame ! $ done !
 
-  -- what the struct owns gives what the callee asks, and is kept, beside what src owns
+  -- what the struct owns gives what the callee asks, and is kept, beside what the slice owns
   apart : Is (B (κ, tt)) d (mach ∷ []) → ent 𝓤 (onEntry 𝓤 H A next.signature (κ, tt) (q, tt) (d, tt) (mach ∷ [], tt)) (sep 𝓤 (StepAt 𝓤 H A mem run .pre to) (sep 𝓤 (sem 𝓤 H A Own) (sem 𝓤 H A Src)))
   apart is =
       let f = LL.owed D L d _ is in
       qed W ((‵ (flft κ q) ⊛ ‵ ftrue) ∷ ‵ (owns (B (κ, tt) ∷ []) (d, tt) (mach ∷ [], tt)) ∷ []) ∵
       move ! (1 ∷ []) $ fsplit ! $ move ! (1 ∷ []) $ drop ! $ use1 W (‵ Own ⊛ ‵ Own) (LL.copy D (T′.the-copy α) 𝓤 H A W .twice d (mach ∷ [])) $ split ! $
       use1 W (given (mach ∷ [] ≡ mach ∷ []) (‵ (all-own (D .parts) L vd))) (own-open 𝓤 H A W D L vd mach) $ learn ! (λ _. use1 W (‵ (ownAt (D .parts) L 0 (d .message)) ⊛ ‵ (rest (D .parts) L 0 vd)) (own-out 𝓤 H A W (D .parts) L 0 vd) $ split ! $
-      -- [what src owns; what the numbers own; what the struct owns; the token]
+      -- [what the slice owns; what the numbers own; what the struct owns; the token]
       move ! (1 ∷ []) $ drop ! $ use1 W (‵ Src ⊛ ‵ Src) (shr-slice-copy 𝓤 H A W (named 0) κ u8 .twice (d .message) (v ∷ [])) $ split ! $
       nothing ! $ owned ! R.the-row (Is R.the-row) (LL.makes R.the-type R′.the-plain 𝓤 H A) (d .cursor) _ (f .1 .1 .0) $ fjoin ! $ owned ! usize (Is usize) (uint-makes 𝓤 H A W w64) (d .«next_chunk») _ (f .1 .0) $ fjoin ! $ move ! (1 ∷ 0 ∷ []) $ fjoin ! $
       move ! (3 ∷ 0 ∷ []) $ use2 W (raw (StepAt 𝓤 H A mem run .pre to)) asked $ move ! (0 ∷ 2 ∷ []) $ frame ! $ frame ! $ done !)
@@ -168,7 +168,7 @@ module _ {M : Type 1} (𝓤 : URA M) (H : Heap 𝓤) (A : Atoms 𝓤) (W : Given
         qed W ((‵ (flft κ q) ⊛ ‵ ftrue) ∷ ‵ Own ∷ ‵ Src ∷ []) ∵
         suffices ! _ (ends-at 𝓤 H A next.ended stayed (next.clauses 𝓤 H A mem run) W (((κ, tt), (q, tt), tt, (d, tt), (mach ∷ [], tt)), tt) (given-back r) (stepped (d .message) r) (tt, tt) (tt, tt)) $ says ! (ap (stepped (d .message)) e) $
         frame ! $ nothing ! $ move ! (1 ∷ 0 ∷ []) $ fjoin ! $ frame ! $
-        -- [what src owns]: with the facts of the numbers it is what the reader owns, and that with the step's what is handed back owns
+        -- [what the slice owns]: with the facts of the numbers it is what the reader owns, and that with the step's what is handed back owns
         nothing ! $ owned ! R.the-row (Is R.the-row) (LL.makes R.the-type R′.the-plain 𝓤 H A) (r .cursor) _ (f .1 .1 .0) $ fjoin ! $ owned ! usize (Is usize) (uint-makes 𝓤 H A W w64) (r .«next_chunk») _ (f .1 .0) $ fjoin ! $ move ! (1 ∷ 0 ∷ []) $ fjoin ! $
         use1 W (‵ (T.the-row α .own (moved r) (T′.lowered (moved r) ∷ []))) (own-shut 𝓤 H A W D L (d .message, (r .«next_chunk», (r .cursor, tt)))) $
         nothing ! $ owned ! E.the-row (Is E.the-row) (EL.makes E.the-type E′.the-plain 𝓤 H A) (r .packet) _ (f .0) $ fjoin ! $ move ! (1 ∷ 0 ∷ []) $ fjoin ! $
@@ -185,11 +185,11 @@ module _ {M : Type 1} (𝓤 : URA M) (H : Heap 𝓤) (A : Atoms 𝓤) (W : Given
         assigns ! (of-opd ! (load ! (from ! (fld ! refl (stop !))) (look-in ! 12 (sub ! 1 refl (whole !))))) (from ! (stop !)) (init ! 6 refl (tt, wt .1 .1 .0)) $
         assigns ! (of-opd ! (load ! (from ! (fld ! refl (stop !))) (look-in ! 12 (sub ! 2 refl (whole !))))) (from ! (stop !)) (init ! 4 refl (tt, wt .1 .1 .1 .0)) $
         move ! (16 ∷ []) $ use1 W (raw (StepAt 𝓤 H A mem run .pre to) ⊛ (‵ Own ⊛ ‵ Src)) (apart is) $ split ! $ move ! (1 ∷ []) $ split ! $ move ! (2 ∷ []) $
-        -- [what step asks; what the struct owns; what src owns; _7; …; _6; …; _5; …; _4; …; _3; …; _2; …; _1; …; room for _0; …]
+        -- [what step asks; what the struct owns; what the slice owns; _7; …; _6; …; _5; …; _4; …; _3; …; _2; …; _1; …; room for _0; …]
         calls-at ! fm (StepAt 𝓤 H A mem run) known to (and-then ! (load ! (from ! (stop !)) (look ! 11 refl)) (and-then ! (load ! (from ! (stop !)) (look ! 9 refl)) (and-then ! (load ! (from ! (stop !)) (look ! 7 refl)) (no-more !)))) (λ u.
         use1 W (later (some (λ (r : CursorStep). ((‵ (flft κ q) ⊛ ‵ ftrue) ⊛ ‵ (S.the-row .own r (u ∷ []))) ⊛ raw (ensured 𝓤 H A step.ended (step.clauses 𝓤 H A mem run) (κ, tt) (d .message, (d .«next_chunk», (d .cursor, tt))) tt r)))) (id⊢ 𝓤 _) $ await ! tt $ pick ! (λ r.
         split ! $ move ! (1 ∷ []) $ use1 W (raw (fact 𝓤 (r ≡ found))) (said r) $ heard ! (r ≡ found) (λ e. split ! $ move ! (1 ∷ []) $
-        -- [the result; the token; what the struct owns; what src owns; _7; …]
+        -- [the result; the token; what the struct owns; what the slice owns; _7; …]
         peeks ! S.the-row (Is S.the-row) (shows 𝓤 H A S.the-row) r (u ∷ []) (λ ir. drop ! $
         land ! (from ! (stop !)) (init ! 13 refl (LL.lawful S.the-type S′.the-laws 𝓤 H A W .typed r _ ir .0)) $
         rewrite ! 13 (λ (w : Val). ‵ (fat fullShare S′.mir l₂ 0 w)) (ap only (LL.tells S.the-type S′.the-laws r _ ir)) refl $

@@ -1,4 +1,4 @@
--- `feedback::open` meets its contract: a walk of its MIR, by hand. `start` judges the message and says where reading starts, and a struct is made that holds the reader, of the slice and what `start` says, and the judgement.
+-- `feedback_reader::FeedbackReader::start` meets its contract: a walk of its MIR, by hand. `start` judges the message and says where reading starts, and a struct is made that holds the reader, of the slice and what `start` says, and the judgement.
 -- The slice is Copy: what it owns is had three times, for the callee, for the exit and for the struct.
 -- Assumes nothing.
 use mathlib.Core.Path.{_≡_, refl, ap, subst}
@@ -145,7 +145,7 @@ module _ {M : Type 1} (𝓤 : URA M) (H : Heap 𝓤) (A : Atoms 𝓤) (W : Given
         qed W ((‵ (flft κ q) ⊛ ‵ ftrue) ∷ ‵ Own ∷ ‵ Own ∷ []) ∵
         suffices ! _ (ends-at 𝓤 H A method.ended stayed (method.clauses 𝓤 H A mem run) W (((κ, tt), (q, tt), tt, (s, tt), at), tt) (given-back r) (started s r) (tt, tt) (tt, tt)) $ says ! (ap (started s) e) $
         frame ! $ nothing ! $ move ! (1 ∷ 0 ∷ []) $ fjoin ! $ frame ! $
-        -- [what src owns]: with the facts of the numbers it is what the reader owns, and that with the judgement's what is handed back owns
+        -- [what the slice owns]: with the facts of the numbers it is what the reader owns, and that with the judgement's what is handed back owns
         nothing ! $ owned ! R.the-row (Is R.the-row) (LL.makes R.the-type R′.the-plain 𝓤 H A) (r .cursor) _ (f .1 .1 .0) $ fjoin ! $ owned ! usize (Is usize) (uint-makes 𝓤 H A W w64) (r .«next_chunk») _ (f .1 .0) $ fjoin ! $ move ! (1 ∷ 0 ∷ []) $ fjoin ! $
         use1 W (‵ (T.the-row α .own (reader r) (T′.lowered (reader r) ∷ []))) (own-shut 𝓤 H A W D L (s, (r .«next_chunk», (r .cursor, tt)))) $
         nothing ! $ owned ! E.the-row (Is E.the-row) (EL.makes E.the-type E′.the-plain 𝓤 H A) (r .judged) _ (f .0) $ fjoin ! $ move ! (1 ∷ 0 ∷ []) $ fjoin ! $
@@ -157,11 +157,11 @@ module _ {M : Type 1} (𝓤 : URA M) (H : Heap 𝓤) (A : Atoms 𝓤) (W : Given
         qed W (raw (onEntry 𝓤 H A method.signature (κ, tt) (q, tt) (s, tt) at) ∷ []) ∵ enter ! C Λ code.function (v ∷ []) _ $
         alloc1 ! (λ l₀. alloc1 ! (λ l₁. alloc1 ! (λ l₂. alloc1 ! (λ l₃. alloc0 ! $ params1 ! $ pass1 ! (init ! 4 refl (shr-slice-lawful 𝓤 H A W (named 0) κ u8 .typed s (v ∷ []) p .0)) $ pass0 ! $
         move ! (8 ∷ []) $ use1 W (raw (Starts 𝓤 H A mem run .pre to) ⊛ (‵ Own ⊛ ‵ Own)) apart $ split ! $ move ! (1 ∷ []) $ split ! $ move ! (2 ∷ []) $
-        -- [what start asks; what src owns, twice; _3; …; _2; …; _1; …; room for _0; …]
+        -- [what start asks; what the slice owns, twice; _3; …; _2; …; _1; …; room for _0; …]
         calls-at ! fm (Starts 𝓤 H A mem run) known to (and-then ! (load ! (from ! (stop !)) (look ! 7 refl)) (no-more !)) (λ u.
         use1 W (later (some (λ (r : CursorStart). ((‵ (flft κ q) ⊛ ‵ ftrue) ⊛ ‵ (S.the-row .own r (u ∷ []))) ⊛ raw (ensured 𝓤 H A start.ended (start.clauses 𝓤 H A mem run) (κ, tt) (s, tt) tt r)))) (id⊢ 𝓤 _) $ await ! tt $ pick ! (λ r.
         split ! $ move ! (1 ∷ []) $ use1 W (raw (fact 𝓤 (r ≡ begins))) (said r) $ heard ! (r ≡ begins) (λ e. split ! $ move ! (1 ∷ []) $
-        -- [the result; the token; what src owns, twice; _3; …; _2; …; _1; …; room for _0; …]
+        -- [the result; the token; what the slice owns, twice; _3; …; _2; …; _1; …; room for _0; …]
         peeks ! S.the-row (Is S.the-row) (shows 𝓤 H A S.the-row) r (u ∷ []) (λ is′. drop ! $
         land ! (from ! (stop !)) (init ! 5 refl (LL.lawful S.the-type S′.the-laws 𝓤 H A W .typed r _ is′ .0)) $
         rewrite ! 5 (λ (w : Val). ‵ (fat fullShare S′.mir l₂ 0 w)) (ap only (LL.tells S.the-type S′.the-laws r _ is′)) refl $
