@@ -17,6 +17,7 @@ use Rattle.twcc.specs.declared.Judged.{Judged}
 use Rattle.twcc.specs.declared.Judged.the-variants.{Good, CutShort, Reserved, NoStatus}
 use Rattle.twcc.specs.declared.Packet.{Packet}
 use Rattle.twcc.specs.declared.Packet.the-variants.{NotReceived, Received}
+use Rattle.feedback_lists.specs.Lists.{sequenceOf}
 
 -- ---- a yes
 pub record Accepted (message : List ℕ) (h : Header) : Type 0 where
@@ -99,10 +100,6 @@ module _ (message : List ℕ) where
       go NoStatus e = inl refl
 
 -- ---- their sequence numbers
-abbrev pub sequenceOf : Packet → ℕ
-sequenceOf (NotReceived q) = q
-sequenceOf (Received q t) = q
-
 sequence-is : (s q : ℕ) (t : ℤ) → sequenceOf (packet s q t) ≡ q
 unfolding packet
 sequence-is s q t = chosen (λ p. sequenceOf p ≡ q) (eqb s notReceived) refl refl

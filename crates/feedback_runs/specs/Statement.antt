@@ -16,8 +16,8 @@ use Rattle.feedback_reader.specs.Reader.{start, readerStart, readerNext}
 use Rattle.feedback_reader.specs.declared.FeedbackReader.{FeedbackReader}
 use Rattle.feedback_reader.specs.declared.OptionPacket.{OptionPacket}
 use Rattle.feedback_reader.specs.declared.OptionPacket.the-variants.{None, Some}
-use Rattle.feedback_lists.specs.Lists.{nextPackets}
-use Rattle.feedback_runs.specs.Packets.{accepted, sequenceOf, packets-refused, packets-count, packets-sequence}
+use Rattle.feedback_lists.specs.Lists.{nextPackets, sequenceOf}
+use Rattle.feedback_runs.specs.Packets.{accepted, packets-refused, packets-count, packets-sequence}
 use Rattle.feedback_runs.specs.InOrder.{judgeInOrder, judged-in-order}
 use Rattle.feedback_runs.specs.Questions.{Says, judgement-says}
 use Rattle.feedback_runs.specs.Unread.{SameReading, ChunksAlike, after-last-delta, same-counted-symbols}
