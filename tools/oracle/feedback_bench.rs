@@ -1,9 +1,10 @@
 //! Times the proved library's reading of feedback messages beside the Rust's, from one driver, on the same messages (tools/bench). Both must tell the same packets.
 use crate::bench::least;
-use crate::feedback::{self, time_zero, Answer, Header, Packet, Parts, EXTEND_FROM};
+use crate::feedback::{self, time_zero, Answer, Header, Parts, EXTEND_FROM};
 use crate::feedback_make::{received, written};
 use crate::make::Random;
 use crate::rtcp::twcc::Twcc;
+use crate::rtp_::TwccSeq;
 use std::hint::black_box;
 use std::time::Instant;
 
@@ -60,8 +61,8 @@ fn start(message: &[u8], reader: &mut [u64; 7]) -> Header {
     h
 }
 
-/// All packets, as many a call as the lists have places for.
-fn ours(message: &[u8], lists: &mut Lists, mut told: impl FnMut(Packet)) -> Header {
+/// All packets, as many a call as the lists have places for; what a call left in them is told.
+fn ours(message: &[u8], lists: &mut Lists, mut told: impl FnMut(u16, &[u8], &[i32])) -> Header {
     let (mut reader, mut sequence) = ([0; 7], 0);
     let header = start(message, &mut reader);
     let (statuses, ticks) = (&mut lists.statuses, &mut lists.ticks);
@@ -71,18 +72,14 @@ fn ours(message: &[u8], lists: &mut Lists, mut told: impl FnMut(Packet)) -> Head
         if n == 0 {
             return header;
         }
-        for (status, ticks) in statuses.iter().zip(&*ticks).take(n as usize) {
-            told((sequence, if *status == 0 { None } else { Some(*ticks) }));
-            sequence = sequence.wrapping_add(1);
-        }
+        told(sequence, &statuses[..n as usize], &ticks[..n as usize]);
     }
 }
 
-/// The Rust's message has the two identifiers in front.
-fn rust(whole: &[u8], zero: Instant) {
-    for (sequence, _, instant) in Twcc::try_from(whole).unwrap().into_iter(zero, EXTEND_FROM) {
-        black_box((sequence, instant));
-    }
+/// The Rust's message has the two identifiers in front. Its packets go to a list too.
+fn rust(whole: &[u8], zero: Instant, packets: &mut Vec<(TwccSeq, Option<Instant>)>) {
+    packets.clear();
+    packets.extend(Twcc::try_from(whole).unwrap().into_iter(zero, EXTEND_FROM).map(|(sequence, _, instant)| (sequence, instant)));
 }
 
 fn timed(turns: usize, mut read: impl FnMut()) -> f64 {
@@ -93,13 +90,13 @@ fn timed(turns: usize, mut read: impl FnMut()) -> f64 {
     start.elapsed().as_nanos() as f64 / turns as f64
 }
 
-/// Prints three lines a message: its packets, its calls of ours, and the least time on both sides, in ns, of judging or parsing it alone, of that with all its packets, ours handed out
-/// by one call, and of the same with a call for each packet.
+/// Prints three lines a message: its packets, its calls of ours, and the least time on both sides, in ns, of judging or parsing it alone, of that with all its packets in lists, ours handed
+/// out by one call, and of the same with a call for each packet.
 pub fn times(rounds: u32) {
-    let (mut whole, mut one) = (Lists::of(65_535), Lists::of(1));
+    let (mut all, mut one, mut list) = (Lists::of(65_535), Lists::of(1), Vec::with_capacity(65_535));
     for (name, message) in messages() {
         let with_identifiers = [&[0; 8], &message[..]].concat();
-        let n = check(name, &message, &mut [&mut whole, &mut one]);
+        let n = check(name, &message, &mut [&mut all, &mut one]);
         let (turns, zero, mut reader) = (1 + 20_000 / n, time_zero(), [0; 7]);
         let mut least = [f64::INFINITY; 5];
         for _ in 0..rounds {
@@ -111,16 +108,19 @@ pub fn times(rounds: u32) {
                     black_box(Twcc::try_from(black_box(&with_identifiers[..])).unwrap());
                 }),
                 timed(turns, || {
-                    ours(black_box(&message), &mut whole, |p| {
-                        black_box(p);
+                    ours(black_box(&message), &mut all, |sequence, statuses, ticks| {
+                        black_box((sequence, statuses, ticks));
                     });
                 }),
                 timed(turns, || {
-                    ours(black_box(&message), &mut one, |p| {
-                        black_box(p);
+                    ours(black_box(&message), &mut one, |sequence, statuses, ticks| {
+                        black_box((sequence, statuses, ticks));
                     });
                 }),
-                timed(turns, || rust(black_box(&with_identifiers), zero)),
+                timed(turns, || {
+                    rust(black_box(&with_identifiers), zero, &mut list);
+                    black_box(&list);
+                }),
             ];
             least = std::array::from_fn(|i| least[i].min(times[i]));
         }
@@ -135,7 +135,11 @@ fn check(name: &str, message: &[u8], lists: &mut [&mut Lists]) -> usize {
     let mut n = 0;
     for lists in lists {
         let mut packets = vec![];
-        let header = ours(message, lists, |p| packets.push(p));
+        let header = ours(message, lists, |sequence, statuses, ticks| {
+            for i in 0..statuses.len() {
+                packets.push((sequence.wrapping_add(i as u16), (statuses[i] != 0).then_some(ticks[i])));
+            }
+        });
         n = packets.len();
         let said = Answer::Told(header, packets);
         assert!(said == feedback::rust(message), "{name}: the two sides differ");

@@ -153,6 +153,8 @@ fn runs(c: &mut Cases) {
             c.is(0, &of(2, &chunks, &bytes(3)));
         }
     }
+    // so many that the place of the chunk behind them is past 65,535
+    c.is(0, &of(1, &[vec![0; 32_764], vec![0x2001]].concat(), &[5]));
 }
 
 fn one_bit(c: &mut Cases) {
@@ -246,6 +248,9 @@ fn cuts(c: &mut Cases) {
     for length in 0..=whole.len() {
         c.is(if length < whole.len() - 1 { 14 } else { 0 }, &whole[..length]);
     }
+    // seven large deltas in one chunk
+    c.is(14, &of(7, &[0xeaaa], &bytes(13)));
+    c.is(0, &of(7, &[0xeaaa], &bytes(14)));
     // a count that is one more wants another chunk; one less leaves a delta unread
     c.is(14, &of(28, &[0x2002, 0x4002, 0xbf03, 0xe19a, 0x0000, 0x4002], &[]));
     c.is(0, &of(26, &[0x2002, 0x4002, 0xbf03, 0xe19a, 0x0000, 0x4002], &bytes(26)));

@@ -1,23 +1,26 @@
 -- The state of a loop that hands out packets to two lists.
 use mathlib.Core.Path.{_≡_, refl, sym, ap, _∙_}
-use Prim.Native.Nat.{ℕ, suc, _+_, _-_, _≤_, _<_, min}
+use Prim.Native.Nat.{ℕ, zero, suc, _+_, _-_, _^_, _≤_, _<_, min}
 use mathlib.Core.Bool.{Bool, true, false, _&&_}
 use mathlib.Core.List.{List, [], _∷_, map}
 use native.Mathlib.Omega.{arith}
-use native.Mathlib.Nat.{zero-add}
+use native.Mathlib.Nat.{zero-add, add-zero}
 use native.Mathlib.Numerals.{add-one}
 use lib.Dec.{ltb}
 use lib.IntN.{ℤ}
-use lib.ListN.{length, set, length-map, length-set}
+use lib.ListN.{length, set, replicate, length-map, length-set}
 use lib.Seq.{sets, sets-eq}
 use borrow.Author.Tests.{ltb-false, ltb-true}
 use Rattle.bool_laws.specs.Bools.{both}
+use Rattle.twcc.specs.Feedback.{signed}
 use Rattle.twcc.specs.declared.Packet.{Packet}
+use Rattle.twcc.specs.declared.Packet.the-variants.{Received}
 use Rattle.feedback_reader.specs.Reader.{step}
 use Rattle.feedback_reader.specs.declared.OptionPacket.the-variants.{None, Some}
 use Rattle.feedback_reader.specs.declared.Cursor.{Cursor}
 use Rattle.feedback_reader.specs.declared.CursorStep.{CursorStep}
 use Rattle.feedback_lists.specs.Lists.{nextPackets, placeAfter, cursorAfter, handed, status, ticksOf, room, over, statusesOver, ticksOver}
+use Rattle.feedback_lists.specs.Run.{runTicks, runTimes, afterRun, AtHand, time, run-step, run-on, after-none, after-on}
 use Rattle.feedback_lists.specs.Laws.{packets-none, place-none, cursor-none, packets-some, packets-most}
 
 -- ---- room
@@ -114,3 +117,44 @@ module _ (message statuses₀ : List ℕ) (ticks₀ : List ℤ) (first : ℕ) (f
     reading-end is none =
         let e = ap (λ (t : CursorStep). t .packet) (sym is) ∙ none in
         ends (packets-none message at cursor e _) (place-none message at cursor e _) (cursor-none message at cursor e _)
+
+  -- k packets of a run of small deltas more
+  abbrev Ran : ℕ → List ℕ → List ℤ → ℕ → ℕ → Cursor → Type 0
+  Ran k statuses ticks n at cursor =
+      Reading (sets statuses n (replicate k 1)) (sets ticks n (runTimes k message (cursor .«next_delta») (cursor .ticks))) (n + k) at
+      (afterRun cursor k (runTicks k message (cursor .«next_delta») (cursor .ticks)))
+
+  module _ (k : ℕ) {statuses : List ℕ} {ticks : List ℤ} {n at : ℕ} {cursor : Cursor} (places : ℕ) (run : AtHand (length message) places cursor (suc k)) (r : Reading statuses ticks n at cursor) (h : n + suc k ≤ most) where
+    abbrev t : ℕ
+    t = time message at cursor places k run
+
+    -- one of them, and the others
+    one-more : Reading (set statuses n 1) (set ticks n (signed 0x8000_0000 t)) (suc n) at (afterRun cursor 1 t)
+    one-more =
+        let one = run-step message at cursor places k run in
+        rw one at (more r {p = Received (cursor .«next_sequence») (signed 0x8000_0000 t)} (omega arith) (ap (λ (x : CursorStep). x .packet) one))
+
+    all-more : Ran k (set statuses n 1) (set ticks n (signed 0x8000_0000 t)) (suc n) at (afterRun cursor 1 t) → Ran (suc k) statuses ticks n at cursor
+    unfolding runTimes runTicks
+    all-more others =
+        let m : suc n + k ≡ n + suc k = omega arith in
+        rw (← m, ← after-on cursor k t (runTicks k message (cursor .«next_delta» + 1) t)) others
+
+  run-typed :
+      (k : ℕ) {statuses : List ℕ} {ticks : List ℤ} {n at : ℕ} {cursor : Cursor} (places : ℕ) → AtHand (length message) places cursor k → Reading statuses ticks n at cursor → n + k ≤ most → cursor .«next_sequence» < 2 ^ 16 →
+      Ran k statuses ticks n at cursor
+  unfolding runTimes runTicks
+  run-typed zero {n = n} {cursor = cursor} places run r h q = rw (add-zero n, after-none cursor q) r
+  run-typed (suc k) {at = at} {cursor = cursor} places run r h q =
+      all-more k places run r h (run-typed k (places - 1) (run-on message at cursor places k run) (one-more k places run r h) (omega arith) (omega arith))
+
+  run-some : (k : ℕ) {statuses : List ℕ} {ticks : List ℤ} {n at : ℕ} {cursor : Cursor} (places : ℕ) → AtHand (length message) places cursor k → Reading statuses ticks n at cursor → n + k ≤ most → 0 < k → Ran k statuses ticks n at cursor
+  run-some zero places run r h some = absurd (omega arith)
+  run-some (suc k) {at = at} {cursor = cursor} places run r h some =
+      all-more k places run r h (run-typed k (places - 1) (run-on message at cursor places k run) (one-more k places run r h) (omega arith) (omega arith))
+
+  pub reading-run :
+      (k : ℕ) {statuses x : List ℕ} {ticks y : List ℤ} {n at sum : ℕ} {cursor z : Cursor} (places : ℕ) → AtHand (length message) places cursor k → Reading statuses ticks n at cursor → n + k ≤ most → 0 < k →
+      sum ≡ runTicks k message (cursor .«next_delta») (cursor .ticks) → x ≡ sets statuses n (replicate k 1) → y ≡ sets ticks n (runTimes k message (cursor .«next_delta») (cursor .ticks)) → z ≡ afterRun cursor k sum →
+      Reading x y (n + k) at z
+  reading-run k places run r h some sum-is x-is y-is z-is = rw (z-is, sum-is, x-is, y-is) (run-some k places run r h some)

@@ -1,8 +1,14 @@
 // Packets of a feedback message handed out to lent lists.
 ghost use mathlib.Core.Path.{_≡_};
+ghost use Prim.Native.Nat.{_+_, _<_, _≤_, _^_, min};
+ghost use lib.ListN.{length, replicate};
+ghost use lib.Seq.{sets};
 ghost use Rattle.feedback_lists.specs.Lists as Lists;
+ghost use Rattle.feedback_lists.specs.Run as Run;
 use feedback_reader::Cursor;
 use feedback_reader::OptionPacket;
+use std::num::wrapping_add_u16;
+use std::num::wrapping_add_u32;
 use twcc::Packet;
 
 // How many packets were handed out, and where the reader then is.
@@ -32,6 +38,79 @@ fn ticks_of(packet: Packet) -> i32
     }
 }
 
+// ---- a run of small deltas, whose packets are handed out together
+fn least(a: usize, b: usize) -> usize
+    ensures { λ r. ⌜ r ≡ min a b ⌝ }
+{
+    if a < b {
+        return a;
+    }
+    b
+}
+
+// How many packets of a run of small deltas are at hand, whose deltas are in a message of that length and which so many places have room for; 0 in another chunk.
+fn run_at_hand(length: usize, places: usize, cursor: Cursor) -> usize
+    ensures { λ r. ⌜ Run.AtHand length places cursor r ⌝ }
+{
+    if cursor.chunk < 0x2000 {
+        return 0;
+    }
+    if 0x4000 <= cursor.chunk {
+        return 0;
+    }
+    if length < cursor.next_delta {
+        return 0;
+    }
+    let packets = least(cursor.symbols_left as usize, cursor.packets_left as usize);
+    least(packets, least(places, length - cursor.next_delta))
+}
+
+fn small_delta(byte: u8) -> u32
+    ensures { λ r. ⌜ r ≡ byte ⌝ }
+{
+    byte as u32
+}
+
+// Hands out n packets with small deltas, from a place of the lists on, and tells the sum of deltas after them.
+fn read_run(
+    message: &[u8],
+    delta: usize,
+    before: u32,
+    statuses: &mut [u8],
+    ticks: &mut [i32],
+    at: usize,
+    n: usize,
+) -> u32
+    requires { ⌜ (delta + n ≤ length (now message)) × ((at + n ≤ length (now statuses)) × (at + n ≤ length (now ticks))) ⌝ }
+    ensures { λ r. ⌜ r ≡ Run.runTicks n (now (message .entry)) delta before ⌝ }
+    ensures { λ _. ⌜ now (statuses .exit) ≡ sets (now (statuses .entry)) at (replicate n 1) ⌝ }
+    ensures { λ _. ⌜ now (ticks .exit) ≡ sets (now (ticks .entry)) at (Run.runTimes n (now (message .entry)) delta before) ⌝ }
+{
+    let mut sum = before;
+    let mut i: usize = 0;
+    while i < n {
+        sum = wrapping_add_u32(sum, small_delta(message[delta + i]));
+        statuses[at + i] = 1;
+        ticks[at + i] = twcc::as_i32(sum);
+        i += 1;
+    }
+    sum
+}
+
+fn after_run(cursor: Cursor, n: usize, ticks: u32) -> Cursor
+    requires { ⌜ (n ≤ cursor .«symbols_left») × ((n ≤ cursor .«packets_left») × (cursor .«next_delta» + n < 2 ^ 64)) ⌝ }
+    ensures { λ r. ⌜ r ≡ Run.afterRun cursor n ticks ⌝ }
+{
+    Cursor {
+        chunk: cursor.chunk,
+        symbols_left: cursor.symbols_left - n as u16,
+        next_delta: cursor.next_delta + n,
+        packets_left: cursor.packets_left - n as u16,
+        next_sequence: wrapping_add_u16(cursor.next_sequence, n as u16),
+        ticks: ticks,
+    }
+}
+
 // Hands out the next packets, as many as both lists have room for: a packet's status, and its ticks. The lists' other places stay as they were.
 pub fn read(
     message: &[u8],
@@ -48,6 +127,22 @@ pub fn read(
     let mut next_chunk = first;
     let mut cursor = from;
     while (packets < statuses.len()) & (packets < ticks.len()) {
+        let places = least(statuses.len() - packets, ticks.len() - packets);
+        let n = run_at_hand(message.len(), places, cursor);
+        if 0 < n {
+            let sum = read_run(
+                message,
+                cursor.next_delta,
+                cursor.ticks,
+                statuses,
+                ticks,
+                packets,
+                n,
+            );
+            cursor = after_run(cursor, n, sum);
+            packets += n;
+            continue;
+        }
         let stepped = feedback_reader::step(message, next_chunk, cursor);
         let handed = stepped.packet;
         match handed {

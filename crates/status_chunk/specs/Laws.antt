@@ -118,7 +118,7 @@ unfolding anyReserved
 reserved-turn chunk i n whole h s e = (sym (rw (symbols-turn chunk i n h) (simp (ne-eqb _ _ s)))) ∙ e
 
 -- ---- a run
-run-symbol : (chunk i : ℕ) → chunk < statusVector → symbol chunk i ≡ chunk / 2 ^ 13
+pub run-symbol : (chunk i : ℕ) → chunk < statusVector → symbol chunk i ≡ chunk / 2 ^ 13
 unfolding symbol
 run-symbol chunk i h = rw (lt-ltb chunk statusVector h)
 

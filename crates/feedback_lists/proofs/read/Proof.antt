@@ -1,5 +1,5 @@
 -- `feedback_lists::read` meets its contract. The loop's invariant: what is left to hand out, handed out too, gives the whole.
-use Prim.Native.Nat.{_-_, _≤_, _<_, min}
+use Prim.Native.Nat.{_+_, _-_, _≤_, _<_, min}
 use mathlib.Core.Path.{_∙_}
 use native.Mathlib.Omega.{arith}
 use lib.ListN.{length}
@@ -7,7 +7,7 @@ use mir.Facts.{toZ-ofZ}
 use mir.Syntax.{w32}
 use denote.Ref.{now}
 use borrow.Author.Needs.{needs, sfits-of}
-use Rattle.feedback_lists.specs.Reading.{both-room, no-room, Reading, reading-none, reading-more, reading-full, reading-end}
+use Rattle.feedback_lists.specs.Reading.{both-room, no-room, Reading, reading-none, reading-more, reading-run, reading-full, reading-end}
 use Rattle.feedback_lists.proofs.read.Statement.{statement}
 use Rattle.feedback_lists.proofs.read.Tie as tie
 
@@ -31,33 +31,74 @@ outside c = omega (arith, no-room (c .before .loop .packets) (length (c .before 
 loop-holds : tie.Need-loop-holds Inv-loop μ-loop
 loop-holds c = reading-none _ _ _ _ _
 
-same-length : tie.Need-same-length Inv-loop μ-loop
-same-length c = c .before .before .before .before .loop .inv .statuses-long
+sub-least : tie.Need-sub-least Inv-loop μ-loop
+sub-least c = omega (arith, inside c, c .before .loop .inv .statuses-long)
 
-same-length-2 : tie.Need-same-length-2 Inv-loop μ-loop
-same-length-2 c = c .before .before .before .before .loop .inv .ticks-long
+sub-least-2 : tie.Need-sub-least-2 Inv-loop μ-loop
+sub-least-2 c = omega (arith, inside c, c .before .loop .inv .ticks-long)
 
-returns : tie.Need-returns Inv-loop μ-loop
-returns c =
-    let e = reading-end _ _ _ _ _ (c .before .before .before .before .loop .inv) (c .before .before .step .ensures) (c .enum-told .given .1) in
-    (e .answer, (e .statuses-end, e .ticks-end))
+-- the packets of a run of small deltas that are at hand have places in both lists, and their deltas are in the message
+places : (c : tie.Then1 Inv-loop μ-loop) → (c .before .before .before .before .loop .packets + c .before .run-at-hand .result ≤ length (c .before .before .before .before .loop .statuses))
+    × (c .before .before .before .before .loop .packets + c .before .run-at-hand .result ≤ length (c .before .before .before .before .loop .ticks))
+places c =
+    let r = c .before .run-at-hand .ensures .room in
+    let l = c .before .before .least .ensures in
+    let i = inside (c .before .before .before) in
+    let v = c .before .before .before .before .loop .inv in
+    (omega (arith, r, l, i, v .statuses-long, v .ticks-long), omega (arith, r, l, i, v .statuses-long, v .ticks-long))
 
-slice-write-statuses : tie.Need-slice-write-statuses Inv-loop μ-loop
-slice-write-statuses c = omega (arith, inside (c .before .before .before .before .before))
+deltas : (c : tie.Then1 Inv-loop μ-loop) → c .before .before .before .before .loop .cursor .«next_delta» + c .before .run-at-hand .result ≤ length (now (c .before .before .before .before .before .before .before .args .message))
+deltas c = c .before .run-at-hand .ensures .deltas (c .if1 .taken)
 
-mul-t21 : tie.Need-mul-t21 Inv-loop μ-loop
-mul-t21 c = omega (arith, inside (c .before .before .before .before .before .before))
+read-run-requires : tie.Need-read-run-requires Inv-loop μ-loop
+read-run-requires c κs = (deltas (c .before .before), (places (c .before .before) .0, places (c .before .before) .1))
 
-slice-set-from-ticks : tie.Need-slice-set-from-ticks Inv-loop μ-loop
-slice-set-from-ticks c = omega (arith, inside (c .before .before .before .before .before .before))
+after-run-requires : tie.Need-after-run-requires Inv-loop μ-loop
+after-run-requires c κs =
+    let then = c .before .before .before .before .before .before in
+    (then .before .run-at-hand .ensures .symbols, (then .before .run-at-hand .ensures .packets, omega (arith, deltas then)))
+
+add-packets : tie.Need-add-packets Inv-loop μ-loop
+add-packets c = let then = c .before .before .before .before .before .before .before in omega (arith, places then .0)
 
 loop-less : tie.Need-loop-less Inv-loop μ-loop
-loop-less c = omega (arith, inside (c .before .before .before .before .before .before .before))
+loop-less c = let then = c .before .before .before .before .before .before .before in omega (arith, then .if1 .taken, inside (then .before .before .before))
 
 loop-again : tie.Need-loop-again Inv-loop μ-loop
 loop-again c =
+    let then = c .before .before .before .before .before .before .before in
+    let v = then .before .before .before .before .loop .inv in
+    let read = c .before .before .before .before .read-run .ensures in
+    reading-run _ _ _ _ _ (then .before .run-at-hand .result) _ (then .before .run-at-hand .ensures) v (omega (arith, places then .0, places then .1, v .statuses-long, v .ticks-long)) (then .if1 .taken)
+    (read .0) (read .1 .0) (read .1 .1) (c .after-run .ensures)
+
+same-length : tie.Need-same-length Inv-loop μ-loop
+same-length c = c .before .before .before .before .before .before .before .loop .inv .statuses-long
+
+same-length-2 : tie.Need-same-length-2 Inv-loop μ-loop
+same-length-2 c = c .before .before .before .before .before .before .before .loop .inv .ticks-long
+
+returns : tie.Need-returns Inv-loop μ-loop
+returns c =
+    let e = reading-end _ _ _ _ _ (c .before .before .before .before .before .before .before .loop .inv) (c .before .before .step .ensures) (c .enum-told .given .1) in
+    (e .answer, (e .statuses-end, e .ticks-end))
+
+slice-write-statuses : tie.Need-slice-write-statuses Inv-loop μ-loop
+slice-write-statuses c = omega (arith, inside (c .before .before .before .before .before .before .before .before))
+
+mul-t30 : tie.Need-mul-t30 Inv-loop μ-loop
+mul-t30 c = omega (arith, inside (c .before .before .before .before .before .before .before .before .before))
+
+slice-set-from-ticks : tie.Need-slice-set-from-ticks Inv-loop μ-loop
+slice-set-from-ticks c = omega (arith, inside (c .before .before .before .before .before .before .before .before .before))
+
+loop-less-2 : tie.Need-loop-less-2 Inv-loop μ-loop
+loop-less-2 c = omega (arith, inside (c .before .before .before .before .before .before .before .before .before .before))
+
+loop-again-2 : tie.Need-loop-again-2 Inv-loop μ-loop
+loop-again-2 c =
     let called = c .before .before .before .before .before .before in
-    reading-more _ _ _ _ _ (called .before .before .loop .inv) (inside (called .before)) (called .step .ensures) (c .before .before .before .before .handed .given .1) (c .before .before .status .ensures)
+    reading-more _ _ _ _ _ (called .before .before .before .before .before .loop .inv) (inside (called .before .before .before .before)) (called .step .ensures) (c .before .before .before .before .handed .given .1) (c .before .before .status .ensures)
     (toZ-ofZ (sfits-of {w = w32} {z = c .before .ticks-of .result} (c .before .ticks-of .ok)) ∙ c .before .ticks-of .ensures)
 
 same-length-3 : tie.Need-same-length-3 Inv-loop μ-loop
@@ -74,4 +115,6 @@ returns-2 c =
 pub read-spec : {M : Type 1} → statement M
 read-spec =
     tie.close
-    (tie.spec Inv-loop μ-loop loop-holds (λ c κs. search needs) (λ c. search needs) same-length same-length-2 returns (λ c. search needs) (λ c κs. search needs) slice-write-statuses (λ c κs. search needs) mul-t21 slice-set-from-ticks (λ c. search needs) loop-less loop-again same-length-3 same-length-4 returns-2)
+    (tie.spec
+    Inv-loop μ-loop loop-holds sub-least sub-least-2 (λ c κs. search needs) (λ c κs. search needs) read-run-requires after-run-requires add-packets loop-less loop-again (λ c κs. search needs) (λ c. search needs) same-length same-length-2 returns
+    (λ c. search needs) (λ c κs. search needs) slice-write-statuses (λ c κs. search needs) mul-t30 slice-set-from-ticks (λ c. search needs) loop-less-2 loop-again-2 same-length-3 same-length-4 returns-2)
