@@ -154,7 +154,7 @@ module _ (message statuses₀ : List ℕ) (ticks₀ : List ℤ) (first : ℕ) (f
       all-more k places run r h (run-typed k (places - 1) (run-on message at cursor places k run) (one-more k places run r h) (omega arith) (omega arith))
 
   pub reading-run :
-      (k : ℕ) {statuses x : List ℕ} {ticks y : List ℤ} {n at sum : ℕ} {cursor z : Cursor} (places : ℕ) → AtHand (length message) places cursor k → Reading statuses ticks n at cursor → n + k ≤ most → 0 < k →
-      sum ≡ runTicks k message (cursor .«next_delta») (cursor .ticks) → x ≡ sets statuses n (replicate k 1) → y ≡ sets ticks n (runTimes k message (cursor .«next_delta») (cursor .ticks)) → z ≡ afterRun cursor k sum →
+      (k : ℕ) {statuses x : List ℕ} {ticks y : List ℤ} {n at : ℕ} {cursor z : Cursor} (places : ℕ) → AtHand (length message) places cursor k → Reading statuses ticks n at cursor → n + k ≤ most → 0 < k →
+      x ≡ sets statuses n (replicate k 1) → y ≡ sets ticks n (runTimes k message (cursor .«next_delta») (cursor .ticks)) → z ≡ afterRun cursor k (runTicks k message (cursor .«next_delta») (cursor .ticks)) →
       Reading x y (n + k) at z
-  reading-run k places run r h some sum-is x-is y-is z-is = rw (z-is, sum-is, x-is, y-is) (run-some k places run r h some)
+  reading-run k places run r h some x-is y-is z-is = rw (z-is, x-is, y-is) (run-some k places run r h some)

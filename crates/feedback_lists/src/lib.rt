@@ -65,38 +65,6 @@ fn run_at_hand(length: usize, places: usize, cursor: Cursor) -> usize
     least(packets, least(places, length - cursor.next_delta))
 }
 
-fn small_delta(byte: u8) -> u32
-    ensures { λ r. ⌜ r ≡ byte ⌝ }
-{
-    byte as u32
-}
-
-// Hands out n packets with small deltas, from a place of the lists on, and tells the sum of deltas after them.
-fn read_run(
-    message: &[u8],
-    delta: usize,
-    before: u32,
-    statuses: &mut [u8],
-    ticks: &mut [i32],
-    at: usize,
-    n: usize,
-) -> u32
-    requires { ⌜ (delta + n ≤ length (now message)) × ((at + n ≤ length (now statuses)) × (at + n ≤ length (now ticks))) ⌝ }
-    ensures { λ r. ⌜ r ≡ Run.runTicks n (now (message .entry)) delta before ⌝ }
-    ensures { λ _. ⌜ now (statuses .exit) ≡ sets (now (statuses .entry)) at (replicate n 1) ⌝ }
-    ensures { λ _. ⌜ now (ticks .exit) ≡ sets (now (ticks .entry)) at (Run.runTimes n (now (message .entry)) delta before) ⌝ }
-{
-    let mut sum = before;
-    let mut i: usize = 0;
-    while i < n {
-        sum = wrapping_add_u32(sum, small_delta(message[delta + i]));
-        statuses[at + i] = 1;
-        ticks[at + i] = twcc::as_i32(sum);
-        i += 1;
-    }
-    sum
-}
-
 fn after_run(cursor: Cursor, n: usize, ticks: u32) -> Cursor
     requires { ⌜ (n ≤ cursor .«symbols_left») × ((n ≤ cursor .«packets_left») × (cursor .«next_delta» + n < 2 ^ 64)) ⌝ }
     ensures { λ r. ⌜ r ≡ Run.afterRun cursor n ticks ⌝ }
@@ -109,6 +77,33 @@ fn after_run(cursor: Cursor, n: usize, ticks: u32) -> Cursor
         next_sequence: wrapping_add_u16(cursor.next_sequence, n as u16),
         ticks: ticks,
     }
+}
+
+// Hands out n packets of a run of small deltas, from a place of the lists on, and gives the cursor after them.
+fn read_run(
+    message: &[u8],
+    cursor: Cursor,
+    statuses: &mut [u8],
+    ticks: &mut [i32],
+    at: usize,
+    n: usize,
+) -> Cursor
+    requires { ⌜ (cursor .«next_delta» + n ≤ length (now message)) × ((n ≤ cursor .«symbols_left») × (n ≤ cursor .«packets_left»)) ⌝ }
+    requires { ⌜ (at + n ≤ length (now statuses)) × (at + n ≤ length (now ticks)) ⌝ }
+    ensures { λ r. ⌜ r ≡ Run.afterRun cursor n (Run.runTicks n (now (message .entry)) (cursor .«next_delta») (cursor .ticks)) ⌝ }
+    ensures { λ _. ⌜ now (statuses .exit) ≡ sets (now (statuses .entry)) at (replicate n 1) ⌝ }
+    ensures { λ _. ⌜ now (ticks .exit) ≡ sets (now (ticks .entry)) at (Run.runTimes n (now (message .entry)) (cursor .«next_delta») (cursor .ticks)) ⌝ }
+{
+    let delta = cursor.next_delta;
+    let mut sum = cursor.ticks;
+    let mut i: usize = 0;
+    while i < n {
+        sum = wrapping_add_u32(sum, feedback_reader::small_delta(message[delta + i]));
+        statuses[at + i] = 1;
+        ticks[at + i] = twcc::as_i32(sum);
+        i += 1;
+    }
+    after_run(cursor, n, sum)
 }
 
 // Hands out the next packets, as many as both lists have room for: a packet's status, and its ticks. The lists' other places stay as they were.
@@ -130,16 +125,7 @@ pub fn read(
         let places = least(statuses.len() - packets, ticks.len() - packets);
         let n = run_at_hand(message.len(), places, cursor);
         if 0 < n {
-            let sum = read_run(
-                message,
-                cursor.next_delta,
-                cursor.ticks,
-                statuses,
-                ticks,
-                packets,
-                n,
-            );
-            cursor = after_run(cursor, n, sum);
+            cursor = read_run(message, cursor, statuses, ticks, packets, n);
             packets += n;
             continue;
         }

@@ -120,7 +120,7 @@ fn byte_len(symbol: u16) -> usize
 }
 
 // A small delta is a byte, not signed.
-fn small_delta(byte: u8) -> u32
+pub fn small_delta(byte: u8) -> u32
     ensures { λ r. ⌜ r ≡ byte ⌝ }
 {
     byte as u32

@@ -51,26 +51,23 @@ deltas : (c : tie.Then1 Inv-loop μ-loop) → c .before .before .before .before 
 deltas c = c .before .run-at-hand .ensures .deltas (c .if1 .taken)
 
 read-run-requires : tie.Need-read-run-requires Inv-loop μ-loop
-read-run-requires c κs = (deltas (c .before .before), (places (c .before .before) .0, places (c .before .before) .1))
-
-after-run-requires : tie.Need-after-run-requires Inv-loop μ-loop
-after-run-requires c κs =
-    let then = c .before .before .before .before .before .before in
-    (then .before .run-at-hand .ensures .symbols, (then .before .run-at-hand .ensures .packets, omega (arith, deltas then)))
+read-run-requires c κs =
+    let run = c .before .before .before .run-at-hand .ensures in
+    ((deltas (c .before .before), (run .symbols, run .packets)), places (c .before .before))
 
 add-packets : tie.Need-add-packets Inv-loop μ-loop
-add-packets c = let then = c .before .before .before .before .before .before .before in omega (arith, places then .0)
+add-packets c = let then = c .before .before .before .before .before .before in omega (arith, places then .0)
 
 loop-less : tie.Need-loop-less Inv-loop μ-loop
-loop-less c = let then = c .before .before .before .before .before .before .before in omega (arith, then .if1 .taken, inside (then .before .before .before))
+loop-less c = let then = c .before .before .before .before .before .before in omega (arith, then .if1 .taken, inside (then .before .before .before))
 
 loop-again : tie.Need-loop-again Inv-loop μ-loop
 loop-again c =
-    let then = c .before .before .before .before .before .before .before in
+    let then = c .before .before .before .before .before .before in
     let v = then .before .before .before .before .loop .inv in
-    let read = c .before .before .before .before .read-run .ensures in
+    let read = c .before .before .before .read-run .ensures in
     reading-run _ _ _ _ _ (then .before .run-at-hand .result) _ (then .before .run-at-hand .ensures) v (omega (arith, places then .0, places then .1, v .statuses-long, v .ticks-long)) (then .if1 .taken)
-    (read .0) (read .1 .0) (read .1 .1) (c .after-run .ensures)
+    (read .1 .0) (read .1 .1) (read .0)
 
 same-length : tie.Need-same-length Inv-loop μ-loop
 same-length c = c .before .before .before .before .before .before .before .loop .inv .statuses-long
@@ -86,8 +83,8 @@ returns c =
 slice-write-statuses : tie.Need-slice-write-statuses Inv-loop μ-loop
 slice-write-statuses c = omega (arith, inside (c .before .before .before .before .before .before .before .before))
 
-mul-t30 : tie.Need-mul-t30 Inv-loop μ-loop
-mul-t30 c = omega (arith, inside (c .before .before .before .before .before .before .before .before .before))
+mul-t29 : tie.Need-mul-t29 Inv-loop μ-loop
+mul-t29 c = omega (arith, inside (c .before .before .before .before .before .before .before .before .before))
 
 slice-set-from-ticks : tie.Need-slice-set-from-ticks Inv-loop μ-loop
 slice-set-from-ticks c = omega (arith, inside (c .before .before .before .before .before .before .before .before .before))
@@ -116,5 +113,5 @@ pub read-spec : {M : Type 1} → statement M
 read-spec =
     tie.close
     (tie.spec
-    Inv-loop μ-loop loop-holds sub-least sub-least-2 (λ c κs. search needs) (λ c κs. search needs) read-run-requires after-run-requires add-packets loop-less loop-again (λ c κs. search needs) (λ c. search needs) same-length same-length-2 returns
-    (λ c. search needs) (λ c κs. search needs) slice-write-statuses (λ c κs. search needs) mul-t30 slice-set-from-ticks (λ c. search needs) loop-less-2 loop-again-2 same-length-3 same-length-4 returns-2)
+    Inv-loop μ-loop loop-holds sub-least sub-least-2 (λ c κs. search needs) (λ c κs. search needs) read-run-requires add-packets loop-less loop-again (λ c κs. search needs) (λ c. search needs) same-length same-length-2 returns
+    (λ c. search needs) (λ c κs. search needs) slice-write-statuses (λ c κs. search needs) mul-t29 slice-set-from-ticks (λ c. search needs) loop-less-2 loop-again-2 same-length-3 same-length-4 returns-2)
