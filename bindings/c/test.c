@@ -582,6 +582,25 @@ static void stack_need(void)
     }
 }
 
+/* ---- near convergence */
+/* A report without packets, 100 ms after the last update and without a round trip, on a link whose acknowledged rate is its average: it adds half a packet of
+   1200 * 8 bits or less, and at least 1,000 bps. */
+static void step_near_convergence(void)
+{
+    const double rows[][2] = {{40000, 41000}, {60000, 61000}, {288000, 292800}, {1000000, 1004166.6666666666}};
+    packets none = lists(0, 0);
+    for (size_t i = 0; i < sizeof rows / sizeof *rows; i++) {
+        hornetpewter_link link = {{0}};
+        results r = SEVEN;
+        ANSWERS(lent_open(&link, rows[i][0], 500 * MS, 150 * MS), 0);
+        link.words[3] = link.words[84] = link.words[88] = 1;
+        link.words[4] = link.words[85] = bits(1000000);
+        link.words[89] = 1000 * MS;
+        ANSWERS(lent_report(&link, &none, 0, 0, 1100 * MS, &r), 0);
+        CHECK(r.bitrate == rows[i][1]);
+    }
+}
+
 /* ---- pass files */
 static int samples;
 static char **sample;
@@ -611,7 +630,7 @@ static const test tests[] = {
     TEST(report_lists), TEST(report_instants_and_sizes), TEST(report_probes), TEST(moments), TEST(list_refusals), TEST(room_at_its_limits),
     TEST(list_at_its_limits), TEST(unlinked_records_want_output), TEST(list_refusals_in_order), TEST(other_formats), TEST(unknown_tags), TEST(words_not_read),
     TEST(history_past_its_length), TEST(copies_go_on_alike), TEST(refused_and_on), TEST(lists_that_overlap), TEST(links_of_their_own_threads), TEST(stack_need),
-    TEST(samples_by_live_calls),
+    TEST(step_near_convergence), TEST(samples_by_live_calls),
 };
 
 int main(int argc, char **argv)

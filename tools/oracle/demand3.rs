@@ -1,5 +1,5 @@
-//! Looks for a list of calls that breaks demand 3: runs the cases of module `link` on the Rust and holds each estimate to its range, each threshold to its own, and
-//! the estimate after each rate update to the bound from every point since the last call that broke the steady stretch.
+//! Looks for a list of calls that breaks demand 3: runs calls as those of module `link`, with fewer large reports, on the Rust and holds each estimate to its range, each threshold to its
+//! own, and the estimate after each rate update to the bound from every point since the last call that broke the steady stretch.
 use crate::bwe::link::{self, Link, Lists};
 use crate::make::{Maker, Random};
 
@@ -11,9 +11,10 @@ pub fn demand3(seed: u64, count: u64) {
     let mut link = link::open(1e6, 500_000_000, 150_000_000).ok().unwrap();
     let mut lists = Lists::default();
     let mut stretch = Stretch::default();
-    let (mut updates, mut bounds, mut longest) = (0u64, 0u64, 0usize);
-    for case in 0..count {
-        let (op, i) = maker.link(&mut r, if seed % 2 == 0 { 30_000 } else { 3_000 }, 40);
+    let (mut updates, mut near, mut bounds, mut longest) = (0u64, 0u64, 0u64, 0usize);
+    let mut call = 0;
+    while call < count {
+        let (op, i) = maker.link(&mut r, if seed % 2 == 0 { 30_000 } else { 3_000 }, 10_000);
         let update = match op {
             90 => {
                 if let Ok(opened) = link::open(f64::from_bits(i[0]), i[1], i[2]) {
@@ -31,22 +32,24 @@ pub fn demand3(seed: u64, count: u64) {
             92 => report(&mut link, std::mem::take(&mut lists), i),
             _ => timeout(&mut link, i[0]),
         };
+        call += 1;
         let s = link.shown();
         let (estimate, threshold) = (f64::from_bits(s[0]), f64::from_bits(s[3]));
-        assert!((40_000.0..=1e10).contains(&estimate) && (6.0..=600.0).contains(&threshold), "case {case}: {estimate} {threshold}");
+        assert!((40_000.0..=1e10).contains(&estimate) && (6.0..=600.0).contains(&threshold), "call {call}: {estimate} {threshold}");
         match update {
             Handed::Probe => stretch = Stretch::default(),
             Handed::Update(usage, _) if usage != NORMAL => stretch = Stretch::default(),
             Handed::Update(_, observed) => {
                 updates += 1;
-                bounds += stretch.check(estimate, observed, case);
+                near += link.control.increases_near_convergence() as u64;
+                bounds += stretch.check(estimate, observed, call);
                 longest = longest.max(stretch.0.len());
             }
             Handed::Nothing => {}
         }
         stretch.point(estimate);
     }
-    println!("{count} cases, seed {seed}: {updates} rate updates under a normal hypothesis, {bounds} bounds held, the longest stretch {longest} points");
+    println!("{count} calls, seed {seed}: {updates} rate updates under a normal hypothesis, {near} of them increases near convergence, {bounds} bounds held, the longest stretch {longest} points");
 }
 
 enum Handed {
@@ -88,13 +91,13 @@ impl Stretch {
         }
     }
 
-    fn check(&mut self, estimate: f64, observed: f64, case: u64) -> u64 {
+    fn check(&mut self, estimate: f64, observed: f64, call: u64) -> u64 {
         for (e, n, least) in self.0.iter_mut() {
             *least = least.min(observed);
             // After n + 1 updates. The sum is rounded, so it is let off by one unit in the last place.
             let sum = *e + 999.0 * *n as f64;
             let bound = f64::from_bits(sum.to_bits() - 1).min(1.5 * *least).min(1e10);
-            assert!(estimate >= bound, "case {case}: from {e}, {n} updates and one more, least observed {least}: {estimate}");
+            assert!(estimate >= bound, "call {call}: from {e}, {n} updates and one more, least observed {least}: {estimate}");
             *n += 1;
         }
         self.0.len() as u64

@@ -9,6 +9,10 @@ impl super::DelayController {
         (&self.trendline_estimator, rtt)
     }
 
+    pub fn increases_near_convergence(&self) -> bool {
+        self.rate_control.increases_near_convergence()
+    }
+
     pub fn hands_on(&self, now: std::time::Instant) -> bool {
         self.trendline_hypothesis_valid(now)
     }

@@ -9,6 +9,10 @@ impl super::RateControl {
         (self.state_word(), m.get(), variance, std)
     }
 
+    pub fn increases_near_convergence(&self) -> bool {
+        self.state == State::Increase && self.is_near_convergence()
+    }
+
     fn state_word(&self) -> u64 {
         match self.state {
             State::Increase => 0,

@@ -511,6 +511,8 @@ const T: u64 = 1_000_000_000;
 fn rate(c: &mut Cases) {
     decreases(c);
     increases(c);
+    near_convergence(c);
+    neighbours(c);
     averages(c);
 }
 
@@ -573,6 +575,66 @@ fn increases(c: &mut Cases) {
     for probe in floats(40_000.0).into_iter().chain(floats(1e10)) {
         start(c, 1e6, 40_000.0);
         c.run(62, [b(probe), T, 0, 0, 0]);
+    }
+}
+
+// An increase near convergence: an overuse that lowers nothing gives the average, and a normal signal with the same rate follows.
+fn near(c: &mut Cases, estimate: f64, rtt: Option<u64>, since: u64) {
+    c.run(60, [b(estimate), 0, b(1e14), 0, 0]);
+    let observed = 2.0 * estimate + 10_000.0;
+    update(c, OVERUSE, observed, rtt, T);
+    update(c, NORMAL, observed, None, T + since);
+}
+
+fn near_convergence(c: &mut Cases) {
+    // half a packet as a step, at least 1,000; a frame of one and of two whole packets
+    let estimates = [60_000.0, 288_000.0, 576_000.0].into_iter().flat_map(floats);
+    for estimate in estimates.chain([0.0, 40_000.0, 100_000.0, 1e6, 1e10]) {
+        near(c, estimate, None, 100 * MS);
+    }
+    // less of it before the response time is over, which is a round trip and 100 ms
+    let rtts = beside(900 * MS).into_iter().chain([0, 50 * MS, 950 * MS, 1000 * MS, LAST]).map(Some);
+    for rtt in rtts.chain([None]) {
+        let response = rtt.unwrap_or(0) + 100 * MS;
+        for since in beside(response).into_iter().chain([0, response / 2, 3 * response]) {
+            near(c, 1e6, rtt, since);
+        }
+    }
+    // steps one after the other, then an overuse that lowers the estimate at once if it is above 870,000
+    start(c, 1e6, 40_000.0);
+    update(c, OVERUSE, 1e6, None, T);
+    for k in 1..=10 {
+        update(c, NORMAL, 1e6, None, T + 100 * k * MS);
+    }
+    update(c, OVERUSE, 435_000.0, None, T + 1005 * MS);
+}
+
+/// An increase near convergence with its constants: frames a second, a packet's bits, the part of it, the most of that, the least step, ns of a second.
+fn near_with([frames, packet, part, most, least, second]: [f64; 6], estimate: f64, rtt: u64, since: u64) -> f64 {
+    let response = rtt + 100 * MS;
+    let response = (response / 1_000_000_000) as f64 + (response % 1_000_000_000) as f64 / second;
+    let frame = estimate / frames;
+    let alpha = part * (since as f64 / 1e9 / response).min(most);
+    estimate + (alpha * (frame / (frame / packet).ceil())).max(least)
+}
+
+// Estimates, round trips and times since the last update to look among.
+fn tries() -> impl Iterator<Item = (f64, u64, u64)> {
+    let estimates = |k: u64| [10.0, 60_000.0 + 1237.0 * k as f64].into_iter().chain(floats(288_000.0 * (k + 1) as f64));
+    (0..10_000).flat_map(move |k| estimates(k).flat_map(move |e| [70, 500].map(|since| (e, 1000 * k, since * MS))))
+}
+
+// For each of those constants and each neighbour of it among the floats, an increase that the neighbour would change.
+fn neighbours(c: &mut Cases) {
+    let constants: [f64; 6] = [30.0, 9600.0, 0.5, 1.0, 1000.0, 1e9];
+    for place in 0..6 {
+        for other in [constants[place].next_down(), constants[place].next_up()] {
+            let mut slipped = constants;
+            slipped[place] = other;
+            let told = |&(estimate, rtt, since): &(f64, u64, u64)| near_with(constants, estimate, rtt, since) != near_with(slipped, estimate, rtt, since);
+            let (estimate, rtt, since) = tries().find(told).expect("no such increase");
+            near(c, estimate, Some(rtt), since);
+        }
     }
 }
 

@@ -3,7 +3,10 @@
 //!     oracle make MODULE SEED COUNT     cases with the Rust's answers, to standard output
 //!     oracle distance A B               how far the first answers (floats) of two files of cases lie apart
 //!     oracle listings A B               the same of two files of pass files with their listings
-//!     oracle demand3 SEED COUNT         looks for a list of calls that breaks demand 3
+//!     oracle trace_links SEED COUNT     what whole links show after each call, to standard output
+//!     oracle trace_pass                 the same of the pass file on standard input
+//!     oracle apart A B                  how far two builds' traces lie apart
+//!     oracle demand3 SEED COUNT         looks for a list that breaks demand 3 among so many calls
 //!     oracle zero_sizes SIZE            the user's failure: the first half second's packets have this size
 //!     oracle entries                    how far the growth table lies from this machine's `powf`
 //!     oracle passes SEED COUNT SIZE     pass files with the Rust's listings, to standard output; SIZE is short, long or longer
@@ -124,6 +127,7 @@ mod bwe {
     pub mod pass;
 }
 
+mod apart;
 #[cfg(bench)]
 mod bench;
 mod demand3;
@@ -149,6 +153,9 @@ fn main() {
         Some("make") if words.len() == 5 => make::make(&words[2], words[3].parse().unwrap(), words[4].parse().unwrap()),
         Some("distance") if words.len() == 4 => distance::distance(&words[2], &words[3]),
         Some("listings") if words.len() == 4 => distance::listings(&words[2], &words[3]),
+        Some("trace_links") if words.len() == 4 => apart::trace_links(words[2].parse().unwrap(), words[3].parse().unwrap()),
+        Some("trace_pass") if words.len() == 2 => apart::trace_pass(),
+        Some("apart") if words.len() == 4 => apart::apart(&words[2], &words[3]),
         Some("demand3") if words.len() == 4 => demand3::demand3(words[2].parse().unwrap(), words[3].parse().unwrap()),
         Some("zero_sizes") if words.len() == 3 => bwe::link::zero_sizes(words[2].parse().unwrap()),
         Some("entries") if words.len() == 2 => distance::entries(),
@@ -184,7 +191,7 @@ fn main() {
         #[cfg(bench)]
         Some("turns") if words.len() == 5 => bench::turns(&words[2], &words[3], words[4].parse().unwrap()),
         _ => {
-            eprintln!("usage: oracle make MODULE SEED COUNT | distance A B | listings A B | demand3 SEED COUNT | zero_sizes SIZE | entries | passes SEED COUNT SIZE | case ROOM | feedback SEED COUNT | feedback_counts SEED COUNT | feedback_real | feedback_differences | limits KIND | lent SEED CALLS | lent_paths SEED CALLS | list");
+            eprintln!("usage: oracle make MODULE SEED COUNT | distance A B | listings A B | trace_links SEED COUNT | trace_pass | apart A B | demand3 SEED COUNT | zero_sizes SIZE | entries | passes SEED COUNT SIZE | case ROOM | feedback SEED COUNT | feedback_counts SEED COUNT | feedback_real | feedback_differences | limits KIND | lent SEED CALLS | lent_paths SEED CALLS | list");
             std::process::exit(2);
         }
     }

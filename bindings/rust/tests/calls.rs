@@ -392,6 +392,31 @@ fn growing_delays_are_overuse() {
     assert!(link.read().unwrap().threshold_ms > 6.0);
 }
 
+/// A report without packets, 100 ms after the last update and without a round trip, on a link whose
+/// acknowledged rate is its average: it adds half a packet of 1200 * 8 bits or less, and at least
+/// 1,000 bps.
+#[test]
+fn a_step_near_convergence() {
+    let rows = [
+        (40_000.0, 41_000.0),
+        (60_000.0, 61_000.0),
+        (288_000.0, 292_800.0),
+        (1e6, 1_004_166.6666666666),
+    ];
+    for (start, estimate) in rows {
+        let mut words = *Link::open(start, 500 * MS, 150 * MS).unwrap().words();
+        for (tag, value) in [
+            (3, 1e6_f64.to_bits()),
+            (84, 1e6_f64.to_bits()),
+            (88, 1000 * MS),
+        ] {
+            (words[tag], words[tag + 1]) = (1, value);
+        }
+        let answer = Link::from_words(words).report(&[], None, 1100 * MS);
+        assert_eq!(answer.unwrap().bitrate, estimate);
+    }
+}
+
 #[test]
 fn a_link_is_plain_data() {
     fn plain<T: Send + Sync + Unpin + Clone + 'static>() {}

@@ -28,7 +28,7 @@ use Rattle.average.specs.declared.MovingAverage.{MovingAverage}
 use Rattle.bandwidth.specs.Bandwidth as B
 use Rattle.bandwidth.specs.Bandwidth.{minEstimate, maxEstimate, mostRate}
 use Rattle.bandwidth.specs.declared.Bitrate.{Bitrate}
-use Rattle.time.specs.Time.{durationOrElse}
+use Rattle.time.specs.Time.{durationOr, durationOrElse}
 use Rattle.time.specs.declared.OptionInstant.{OptionInstant}
 use Rattle.time.specs.declared.OptionInstant.the-variants as Instant
 use Rattle.time.specs.declared.OptionDuration.{OptionDuration}
@@ -40,6 +40,7 @@ use Rattle.rate_control.specs.declared.State.the-variants.{Increase, Hol
 use Rattle.rate_control.specs.declared.RateControl.{RateControl}
 use Rattle.rate_control.specs.RateControl.{
   additiveIncrease,
+  additiveStep,
   beta,
   decrease,
   increase,
@@ -175,15 +176,22 @@ update-sound c s observed rtt now f h = go (transition (c .state) s)
     go Hold = h
 
 -- ---- one increase
--- it adds at least 1,000, of which rounding takes 1 at most
-sum-high : (x w : Float) → InRange x → T (le (plus x 999) (add x (max w thousand)))
-sum-high x w h =
-    climb x (10 ^ 10) 999 (omega arith) (in-wider h (unfold floats in tt)) (max w thousand)
-    (le-trans (nat 1000) thousand (max w thousand) (unfold floats in tt) (max-floor w thousand (unfold floats in tt)))
+least-step : (w : Float) → T (le (nat 1000) (max w thousand))
+least-step w = le-trans (nat 1000) thousand (max w thousand) (unfold floats in tt) (max-floor w thousand (unfold floats in tt))
+
+-- near convergence it adds at least 1,000, whatever the estimate, the round trip and the time since the last update
+pub additiveStep-least : (b : Bitrate) (rtt since : ℕ) → T (le (nat 1000) (additiveStep b rtt since))
+additiveStep-least b rtt since = least-step _
+
+-- of at least 1,000 that are added rounding takes 1 at most
+sum-high : (x step : Float) → InRange x → T (le (nat 1000) step) → T (le (plus x 999) (add x step))
+sum-high x step h l = climb x (10 ^ 10) 999 (omega arith) (in-wider h (unfold floats in tt)) step l
 
 raised-high : (c : RateControl) (since : ℕ) → InRange (estimate c) → T (le (plus (estimate c) 999) (raised c since))
 unfolding raised additiveIncrease multiplicativeIncrease
-raised-high c since h = chosen (λ (x : Float). T (le (plus (estimate c) 999) x)) (isNearConvergence c) (sum-high (estimate c) _ h) (sum-high (estimate c) _ h)
+raised-high c since h =
+    chosen (λ (x : Float). T (le (plus (estimate c) 999) x)) (isNearConvergence c)
+    (sum-high (estimate c) _ h (additiveStep-least (c .«estimated_bitrate») (durationOr (c .«last_rtt») 0) since)) (sum-high (estimate c) _ h (least-step _))
 
 -- the limit is at least 1.5 times the observed rate; both may be infinite
 le-limit : (x : Float) → T (fits binary64 x) → T (ordered x) → T (le x (add x increaseLimitMargin))

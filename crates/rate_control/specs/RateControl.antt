@@ -222,9 +222,12 @@ nearAt (Observed.Some b) m = Average.withinStd m (b .0) three
 unfoldable pub isNearConvergence : RateControl → Bool
 isNearConvergence c = nearAt (c .«last_observed_bitrate») (c .«averaged_observed_bitrate»)
 
--- what a frame's bits are divided by: 1200 / 8, where the draft has 1200 * 8
+-- what a frame's bits are divided by: the draft's 1200 * 8, where the Rust has 1200 / 8
 abbrev pub packetSizeDivisor : Float
-packetSizeDivisor = div packetBytes B.bitsPerByte
+packetSizeDivisor = mul packetBytes B.bitsPerByte
+
+pub packetSizeDivisor-is : packetSizeDivisor ≡ decimal 9600 1
+packetSizeDivisor-is = unfold floats in refl
 
 unfoldable pub estimatedPacketSize : Bitrate → Float
 estimatedPacketSize b =
@@ -235,10 +238,14 @@ estimatedPacketSize b =
 unfoldable pub responseTime : ℕ → Float
 responseTime rtt = asSecsF64 (rtt + defaultBackoffTime)
 
+-- what is added to an estimate near convergence, by its round trip and the time since the last update: at most half a packet
+abbrev pub additiveStep : Bitrate → ℕ → ℕ → Float
+additiveStep b rtt since =
+    let alpha = mul half (min (div (asSecsF64 since) (responseTime rtt)) one) in
+    max (mul alpha (estimatedPacketSize b)) thousand
+
 unfoldable pub additiveIncrease : RateControl → ℕ → Float
-additiveIncrease c since =
-    let alpha = mul half (min (div (asSecsF64 since) (responseTime (durationOr (c .«last_rtt») 0))) one) in
-    add (c .«estimated_bitrate» .0) (max (mul alpha (estimatedPacketSize (c .«estimated_bitrate»))) thousand)
+additiveIncrease c since = add (c .«estimated_bitrate» .0) (additiveStep (c .«estimated_bitrate») (durationOr (c .«last_rtt») 0) since)
 
 unfoldable pub multiplicativeIncrease : RateControl → ℕ → Float
 multiplicativeIncrease c since =

@@ -285,7 +285,7 @@ impl RateControl {
         ensures { λ r. ⌜ r ≡ Rate.estimatedPacketSize (self .«estimated_bitrate») ⌝ }
     {
         let bits_per_frame = self.estimated_bitrate.0 / 30.0;
-        let packets_per_frame = float::ceil(bits_per_frame / (1200.0 / 8.0));
+        let packets_per_frame = float::ceil(bits_per_frame / (1200.0 * 8.0));
         bits_per_frame / packets_per_frame
     }
 

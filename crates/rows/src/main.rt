@@ -1,4 +1,4 @@
-// Runs the rows of document 01 that are not theorems, and prints what each gives.
+// Runs the rows of document 01 that are not theorems, and prints what each gives. Order 3 of document 02 moves none of them.
 use acked_bitrate_estimator::AckedBitrateEstimator;
 use arrival_group::ArrivalGroup;
 use bandwidth::Bitrate;

@@ -109,7 +109,7 @@ answer (thresholdAfter n) = toBits binary64 (threshold newDelays (lit 0) (ms n))
 answer (root n) = toBits binary64 (sqrt (ofInt binary64 (pos n)))
 answer (factor i) = toBits binary64 (growthFactor i)
 
--- ---- the table
+-- ---- the table: as document 01 has it. Order 3 of document 02 moves no row, since none is near convergence
 pub record Row : Type 0 where
   pub question : Question
   pub gives : ℕ
