@@ -512,7 +512,7 @@ fn rate(c: &mut Cases) {
     decreases(c);
     increases(c);
     near_convergence(c);
-    neighbours(c);
+    slips_near_convergence(c);
     averages(c);
 }
 
@@ -609,13 +609,21 @@ fn near_convergence(c: &mut Cases) {
     update(c, OVERUSE, 435_000.0, None, T + 1005 * MS);
 }
 
-/// An increase near convergence with its constants: frames a second, a packet's bits, the part of it, the most of that, the least step, ns of a second.
-fn near_with([frames, packet, part, most, least, second]: [f64; 6], estimate: f64, rtt: u64, since: u64) -> f64 {
-    let response = rtt + 100 * MS;
-    let response = (response / 1_000_000_000) as f64 + (response % 1_000_000_000) as f64 / second;
+/// An increase near convergence with its constants (frames a second, a packet's bits, the part of it, the most of that, the least step, ns of a second), and with one
+/// operation before another that it comes after.
+fn near_with([frames, packet, part, most, least, second]: [f64; 6], order: usize, (estimate, rtt, since): (f64, u64, u64)) -> f64 {
+    let secs = |ns: u64| (ns / 1_000_000_000) as f64 + (ns % 1_000_000_000) as f64 / second;
+    let response = if order == 1 { secs(rtt) + 0.1 } else { secs(rtt + 100 * MS) };
+    let waited = if order == 2 { since as f64 / (rtt + 100 * MS) as f64 } else { since as f64 / 1e9 / response };
+    let alpha = part * waited.min(most);
     let frame = estimate / frames;
-    let alpha = part * (since as f64 / 1e9 / response).min(most);
-    estimate + (alpha * (frame / (frame / packet).ceil())).max(least)
+    let packets = (frame / packet).ceil();
+    let step = match order {
+        3 => alpha * (estimate / (frames * packets)),
+        4 => alpha * frame / packets,
+        _ => alpha * (frame / packets),
+    };
+    estimate + step.max(least)
 }
 
 // Estimates, round trips and times since the last update to look among.
@@ -624,17 +632,15 @@ fn tries() -> impl Iterator<Item = (f64, u64, u64)> {
     (0..10_000).flat_map(move |k| estimates(k).flat_map(move |e| [70, 500].map(|since| (e, 1000 * k, since * MS))))
 }
 
-// For each of those constants and each neighbour of it among the floats, an increase that the neighbour would change.
-fn neighbours(c: &mut Cases) {
+// For each of those constants and each neighbour of it among the floats, and for each order of operations, an increase that it would change.
+fn slips_near_convergence(c: &mut Cases) {
     let constants: [f64; 6] = [30.0, 9600.0, 0.5, 1.0, 1000.0, 1e9];
-    for place in 0..6 {
-        for other in [constants[place].next_down(), constants[place].next_up()] {
-            let mut slipped = constants;
-            slipped[place] = other;
-            let told = |&(estimate, rtt, since): &(f64, u64, u64)| near_with(constants, estimate, rtt, since) != near_with(slipped, estimate, rtt, since);
-            let (estimate, rtt, since) = tries().find(told).expect("no such increase");
-            near(c, estimate, Some(rtt), since);
-        }
+    let changed = |place: usize, other: f64| std::array::from_fn(|k| if k == place { other } else { constants[k] });
+    let neighbours = (0..6).flat_map(|k| [changed(k, constants[k].next_down()), changed(k, constants[k].next_up())]);
+    for (slipped, order) in neighbours.map(|other| (other, 0)).chain((1..=4).map(|order| (constants, order))) {
+        let told = |&tried: &(f64, u64, u64)| near_with(constants, 0, tried) != near_with(slipped, order, tried);
+        let (estimate, rtt, since) = tries().find(told).expect("no such increase");
+        near(c, estimate, Some(rtt), since);
     }
 }
 

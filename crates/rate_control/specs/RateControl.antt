@@ -238,7 +238,7 @@ estimatedPacketSize b =
 unfoldable pub responseTime : ℕ → Float
 responseTime rtt = asSecsF64 (rtt + defaultBackoffTime)
 
--- what is added to an estimate near convergence, by its round trip and the time since the last update: at most half a packet
+-- what is added to an estimate near convergence: half a packet, less of it until a round trip and 100 ms are over, and at least 1,000 bps
 abbrev pub additiveStep : Bitrate → ℕ → ℕ → Float
 additiveStep b rtt since =
     let alpha = mul half (min (div (asSecsF64 since) (responseTime rtt)) one) in
