@@ -1,6 +1,7 @@
 //! How far estimates part from the unaltered Rust's. A trace is what a link shows after each accepted call, five words of 8 bytes: which link, the moment, the estimate, whether it
 //! increases near convergence, the other answers (hypothesis with counts, next timeout, threshold, acknowledged rate) as one number. Two builds' traces of the same calls are held side by side.
-use crate::bwe::link::{self, Link, Lists};
+use crate::bwe::drive::States;
+use crate::bwe::link::Link;
 use crate::bwe::pass;
 use crate::make::{Maker, Random};
 use std::hash::{DefaultHasher, Hash, Hasher};
@@ -20,36 +21,16 @@ fn write_call(out: &mut impl Write, which: u64, now: u64, link: &Link) {
 /// The trace of the cases of module `link`.
 pub fn trace_links(seed: u64, count: u64) {
     let mut out = BufWriter::with_capacity(1 << 20, std::io::stdout().lock());
-    let (mut r, mut maker) = (Random::from_seed(seed), Maker::default());
-    let mut link = link::open(1e6, 500_000_000, 150_000_000).ok().unwrap();
-    let (mut which, mut lists) = (0, Lists::default());
+    let (mut r, mut maker, mut states) = (Random::from_seed(seed), Maker::default(), States::new());
+    let mut which = 0;
     for _ in 0..count {
         let (op, i) = maker.link(&mut r, 30_000, 40);
-        let (number, now) = match op {
-            90 => {
-                if let Ok(opened) = link::open(f64::from_bits(i[0]), i[1], i[2]) {
-                    link = opened;
-                    which += 1;
-                }
-                continue;
-            }
-            91 => {
-                for (list, x) in lists.iter_mut().zip(i) {
-                    list.push(x);
-                }
-                continue;
-            }
-            92 => {
-                let mut lists = std::mem::take(&mut lists);
-                if i[3] > 0 {
-                    lists[i[3] as usize - 1].pop();
-                }
-                (link.report(&lists, (i[0] == 1).then(|| f64::from_bits(i[1])), i[2]), i[2])
-            }
-            _ => (link.timeout(i[0]), i[0]),
-        };
-        if number == 0 {
-            write_call(&mut out, which, now, &link);
+        let number = states.run(op, i)[0];
+        match op {
+            90 => which += (number == 0) as u64,
+            92 if number == 0 => write_call(&mut out, which, i[2], &states.link),
+            93 if number == 0 => write_call(&mut out, which, i[0], &states.link),
+            _ => {}
         }
     }
 }

@@ -110,7 +110,7 @@ pub struct States {
     rate: RateControl,
     control: DelayController,
     packets: Vec<AckedPacket>,
-    link: Link,
+    pub link: Link,
     lists: Lists,
 }
 

@@ -1,5 +1,5 @@
 -- Worked examples: a rate control that is fresh at 1,000,000 bps, and what is added to an estimate near convergence.
-use Prim.Native.Nat.{ℕ, _^_}
+use Prim.Native.Nat.{_^_}
 use mathlib.Core.Path.{_≡_}
 use mathlib.Core.Bool.{Bool, true}
 use mathlib.Core.List.{List, [], _∷_}
