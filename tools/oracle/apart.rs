@@ -18,13 +18,10 @@ fn write_call(out: &mut impl Write, which: u64, now: u64, link: &Link) {
     }
 }
 
-/// The trace of the cases of module `link`.
-pub fn trace_links(seed: u64, count: u64) {
+fn trace(cases: impl Iterator<Item = (u64, [u64; 5])>) {
     let mut out = BufWriter::with_capacity(1 << 20, std::io::stdout().lock());
-    let (mut r, mut maker, mut states) = (Random::from_seed(seed), Maker::default(), States::new());
-    let mut which = 0;
-    for _ in 0..count {
-        let (op, i) = maker.link(&mut r, 30_000, 40);
+    let (mut states, mut which) = (States::new(), 0);
+    for (op, i) in cases {
         let number = states.run(op, i)[0];
         match op {
             90 => which += (number == 0) as u64,
@@ -35,17 +32,17 @@ pub fn trace_links(seed: u64, count: u64) {
     }
 }
 
-/// The trace of the pass file on standard input.
+/// The trace of the cases that `make link` makes.
+pub fn trace_links(seed: u64, count: u64) {
+    let (mut r, mut maker) = (Random::from_seed(seed), Maker::default());
+    trace((0..count).map(|_| maker.link(&mut r, 30_000, 40)));
+}
+
+/// The trace of the pass file on standard input, which must be a good one.
 pub fn trace_pass() {
     let mut file = vec![];
     std::io::stdin().lock().read_to_end(&mut file).unwrap();
-    let mut out = BufWriter::new(std::io::stdout().lock());
-    let each = |link: &Link, _, number, now| {
-        if number == 0 {
-            write_call(&mut out, 0, now, link);
-        }
-    };
-    pass::run(&file, pass::MOST_RECORDS, each).unwrap();
+    trace(pass::cases(&file).into_iter());
 }
 
 fn calls(name: &str) -> Vec<Call> {

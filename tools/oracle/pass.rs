@@ -100,29 +100,46 @@ fn line(link: &Link, record: usize, number: u64, out: &mut impl Write) {
 
 /// The listing of a file of at most so many records, or the number of the question that it fails.
 pub fn list(file: &[u8], most: usize, out: &mut impl Write) -> Result<(), u64> {
-    run(file, most, |link, record, number, _| line(link, record, number, out))
-}
-
-/// The calls of such a file, and what each leaves: the link, the record's number, the refusal's or 0, the moment.
-pub fn run(file: &[u8], most: usize, mut each: impl FnMut(&Link, usize, u64, u64)) -> Result<(), u64> {
     judge(file, most)?;
     let mut link = open(1e6, 500_000_000, 150_000_000)?;
     let mut waiting = Lists::default();
     let mut k = 1;
     while k != 0 {
         let r = record(file, k);
-        if r.kind() == 1 {
-            for (list, x) in waiting.iter_mut().zip([r.word(8), r.size(), r.word(16), r.word(24), r.word(32)]) {
-                list.push(x);
+        match r.kind() {
+            1 => {
+                for (list, x) in waiting.iter_mut().zip([r.word(8), r.size(), r.word(16), r.word(24), r.word(32)]) {
+                    list.push(x);
+                }
             }
-        } else {
-            let now = r.word(32);
-            let number = if r.kind() == 2 { link.report(&std::mem::take(&mut waiting), r.probe(), now) } else { link.timeout(now) };
-            each(&link, k, number, now);
+            2 => {
+                let number = link.report(&std::mem::take(&mut waiting), r.probe(), r.word(32));
+                line(&link, k, number, out);
+            }
+            _ => {
+                let number = link.timeout(r.word(32));
+                line(&link, k, number, out);
+            }
         }
         k = r.next();
     }
     Ok(())
+}
+
+/// The linked records of a file as cases of module `link`, its opening first.
+pub fn cases(file: &[u8]) -> Vec<(u64, [u64; 5])> {
+    let mut cases = vec![(90, [bits(1e6), 500_000_000, 150_000_000, 0, 0])];
+    let mut k = 1;
+    while k != 0 {
+        let r = record(file, k);
+        cases.push(match r.kind() {
+            1 => (91, [r.word(8), r.size(), r.word(16), r.word(24), r.word(32)]),
+            2 => (92, [r.flag() as u64, r.word(40), r.word(32), 0, 0]),
+            _ => (93, [r.word(32), 0, 0, 0, 0]),
+        });
+        k = r.next();
+    }
+    cases
 }
 
 /// A packet as the Rust has it; instants are ns.
