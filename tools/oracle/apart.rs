@@ -58,7 +58,7 @@ const EQUAL: f64 = 1e-9;
 pub fn apart(ours: &str, rust: &str) {
     let (ours, rust) = (calls(ours), calls(rust));
     assert!(ours.len() == rust.len(), "the traces are not of one length");
-    let (mut links, mut apart, mut others, mut most, mut least) = (0, 0, 0, 1f64, 1f64);
+    let (mut links, mut ahead, mut behind, mut others, mut most, mut least) = (0, 0, 0, 0, 1f64, 1f64);
     let mut stretch = Stretch::default();
     for (i, (x, y)) in ours.iter().zip(&rust).enumerate() {
         assert!(x[..2] == y[..2], "not the same calls");
@@ -68,13 +68,14 @@ pub fn apart(ours: &str, rust: &str) {
             stretch.equal = true;
         }
         let ratio = f64::from_bits(x[2]) / f64::from_bits(y[2]);
-        apart += ((ratio - 1.0).abs() > EQUAL) as u64;
+        ahead += (ratio > 1.0 + EQUAL) as u64;
+        behind += (ratio < 1.0 - EQUAL) as u64;
         others += (x[4] != y[4]) as u64;
         (most, least) = (most.max(ratio), least.min(ratio));
         stretch.call(x[3] == 1, ratio, x[1]);
     }
     stretch.end();
-    println!("{} calls, {links} links: after {apart} of them the estimates are apart, ours from {least:.4} to {most:.4} times the Rust's; {others} differ in another answer", ours.len());
+    println!("{} calls, {links} links: after {ahead} of them ours is ahead, after {behind} behind, from {least:.4} to {most:.4} times the Rust's; {others} differ in another answer", ours.len());
     stretch.print();
 }
 
