@@ -5,7 +5,7 @@ ghost use Rattle.acked_bitrate_estimator.specs.AckedBitrateEstimator as Acked;
 use bandwidth::{Bitrate, DataSize, OptionBitrate};
 use time::OptionInstant;
 
-#[derive(Drop)]
+#[derive(Clone, Copy)]
 pub struct AckedBitrateEstimator {
     // The window to use for the first estimate, in ns.
     pub initial_window: u64,
@@ -22,21 +22,21 @@ pub struct AckedBitrateEstimator {
 }
 
 // The bytes of the current window and what of it has elapsed, in ns.
-#[derive(Drop)]
+#[derive(Clone, Copy)]
 pub struct Window {
     pub sum: DataSize,
     pub elapsed: u64,
 }
 
 // The rate of a full window, and whether it held few bytes.
-#[derive(Drop)]
+#[derive(Clone, Copy)]
 pub enum OptionSample {
     None,
     Some(Bitrate, bool),
 }
 
 // An estimate and its variance.
-#[derive(Drop)]
+#[derive(Clone, Copy)]
 pub struct Weighed {
     pub estimate: f64,
     pub variance: f64,

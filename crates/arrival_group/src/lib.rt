@@ -11,7 +11,7 @@ const SEND_TIME_GROUP_LENGTH: u64 = 5_000_000;
 const MAX_BURST_DURATION: u64 = 100_000_000;
 
 // A group has a packet: the Rust's options of it are there together, or there is no group.
-#[derive(Drop)]
+#[derive(Clone, Copy)]
 pub struct ArrivalGroup {
     pub first_local_send_time: u64,
     pub first_remote_recv_time: u64,
@@ -20,7 +20,7 @@ pub struct ArrivalGroup {
 }
 
 // Whether a packet belongs to a group.
-#[derive(Drop)]
+#[derive(Clone, Copy)]
 pub enum Belongs {
     Yes,
     NewGroup,
@@ -28,33 +28,33 @@ pub enum Belongs {
 }
 
 // A group after a packet, and whether the packet needs a new one.
-#[derive(Drop)]
+#[derive(Clone, Copy)]
 pub struct Added {
     pub group: ArrivalGroup,
     pub need_new_group: bool,
 }
 
-#[derive(Drop)]
+#[derive(Clone, Copy)]
 pub enum OptionGroup {
     None,
     Some(ArrivalGroup),
 }
 
 // The delay between two groups.
-#[derive(Drop)]
+#[derive(Clone, Copy)]
 pub struct InterGroupDelayDelta {
     pub send_delta: TimeDelta,
     pub arrival_delta: TimeDelta,
     pub last_remote_recv_time: u64,
 }
 
-#[derive(Drop)]
+#[derive(Clone, Copy)]
 pub enum OptionDelta {
     None,
     Some(InterGroupDelayDelta),
 }
 
-#[derive(Drop)]
+#[derive(Clone, Copy)]
 pub struct ArrivalGroupAccumulator {
     pub send_time_origin: OptionInstant,
     pub previous_group: OptionGroup,
@@ -62,7 +62,7 @@ pub struct ArrivalGroupAccumulator {
 }
 
 // An accumulator after a packet, and the delay delta that the packet gave.
-#[derive(Drop)]
+#[derive(Clone, Copy)]
 pub struct Accumulated {
     pub accumulator: ArrivalGroupAccumulator,
     pub delta: OptionDelta,

@@ -3,13 +3,13 @@ ghost use Rattle.std.specs.Prelude.{◌≡◌};
 ghost use Rattle.average.specs.Average as Average;
 
 // Rust's `Option<f64>`.
-#[derive(Drop)]
+#[derive(Clone, Copy)]
 pub enum OptionF64 {
     None,
     Some(f64),
 }
 
-#[derive(Drop)]
+#[derive(Clone, Copy)]
 pub struct MovingAverage {
     pub smoothing_factor: f64,
     pub average: OptionF64,

@@ -3,15 +3,15 @@ ghost use Rattle.std.specs.Prelude.{◌≡◌};
 ghost use Rattle.bandwidth.specs.Bandwidth as B;
 
 // A data rate in bits per second.
-#[derive(Drop)]
+#[derive(Clone, Copy)]
 pub struct Bitrate(pub f64);
 
 // A data size in bytes.
-#[derive(Drop)]
+#[derive(Clone, Copy)]
 pub struct DataSize(pub i64);
 
 // Rust's `Option<Bitrate>`.
-#[derive(Drop)]
+#[derive(Clone, Copy)]
 pub enum OptionBitrate {
     None,
     Some(Bitrate),
@@ -34,7 +34,7 @@ fn saturating_add(a: i64, b: i64) -> i64
 }
 
 // How the path is used, as far as the delay tells (src/bwe/mod.rs).
-#[derive(Drop)]
+#[derive(Clone, Copy)]
 pub enum BandwidthUsage {
     Overuse,
     Normal,

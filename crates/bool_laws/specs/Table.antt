@@ -15,6 +15,7 @@ module _ {A : Type 0} where
 
     pub of-every : (r : A) (rs : List A) → T (every rs) → Member r rs → T (test r)
     unfolding every
+    of-every r [] h m = elim m [ ]
     of-every r (s ∷ rs) h here = and_l (test r) (every rs) h
     of-every r (s ∷ rs) h (there m) = of-every r rs (and_r (test s) (every rs) h) m
 

@@ -6,7 +6,7 @@ use libc::STDOUT_FILENO;
 use std::num::wrapping_add_u64;
 
 // An operation, its inputs and the Rust's answers.
-#[derive(Drop)]
+#[derive(Clone, Copy)]
 pub struct Case {
     pub op: u64,
     pub a: u64,
@@ -54,7 +54,7 @@ impl Case {
 }
 
 // How many cases there were, with how many packets, how many agreed before the first that differs, and how many differ.
-#[derive(Drop)]
+#[derive(Clone, Copy)]
 pub struct Counts {
     pub cases: u64,
     pub packets: u64,

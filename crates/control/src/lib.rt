@@ -14,7 +14,7 @@ const UPDATE_INTERVAL: u64 = 25_000_000;
 
 const MAX_TWCC_GAP: u64 = 500_000_000;
 
-#[derive(Drop)]
+#[derive(Clone, Copy)]
 pub struct DelayController {
     pub arrival_group_accumulator: ArrivalGroupAccumulator,
     pub trendline_estimator: TrendlineEstimator,
@@ -28,14 +28,14 @@ pub struct DelayController {
 }
 
 // What a report's packets go through: the groups, and the trendline of the delays between them.
-#[derive(Drop)]
+#[derive(Clone, Copy)]
 pub struct DelayDetector {
     pub arrival_group_accumulator: ArrivalGroupAccumulator,
     pub trendline_estimator: TrendlineEstimator,
 }
 
 // What a timeout changes of a controller.
-#[derive(Drop)]
+#[derive(Clone, Copy)]
 struct Timed {
     rate_control: RateControl,
     next_timeout: u64,

@@ -9,7 +9,7 @@ use std::num::{wrapping_add_u16, wrapping_add_u32};
 use twcc::Packet;
 
 // How many packets were handed out, and where the reader then is.
-#[derive(Drop)]
+#[derive(Clone, Copy)]
 pub struct Handed {
     pub packets: usize,
     pub next_chunk: usize,

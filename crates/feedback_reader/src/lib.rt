@@ -9,7 +9,7 @@ use twcc::{Header, Judged, Packet};
 
 const HEADER_BYTES: usize = 8;
 
-#[derive(Drop)]
+#[derive(Clone, Copy)]
 pub enum OptionPacket {
     None,
     Some(Packet),
@@ -17,7 +17,7 @@ pub enum OptionPacket {
 
 // What a reader holds beside the message and the place of the next chunk: the chunk that it is in and how many of its symbols are left, the place of the next
 // delta, how many packets are left, the next sequence number, and the sum of the deltas so far modulo 2^32.
-#[derive(Drop)]
+#[derive(Clone, Copy)]
 pub struct Cursor {
     pub chunk: u16,
     pub symbols_left: u16,
@@ -27,14 +27,14 @@ pub struct Cursor {
     pub ticks: u32,
 }
 
-#[derive(Drop)]
+#[derive(Clone, Copy)]
 pub struct CursorStart {
     pub judged: Judged,
     pub next_chunk: usize,
     pub cursor: Cursor,
 }
 
-#[derive(Drop)]
+#[derive(Clone, Copy)]
 pub struct CursorStep {
     pub packet: OptionPacket,
     pub next_chunk: usize,
@@ -42,7 +42,7 @@ pub struct CursorStep {
 }
 
 // A chunk, how many of its symbols are left, and the place of the chunk after it.
-#[derive(Drop)]
+#[derive(Clone, Copy)]
 pub struct Place {
     pub next_chunk: usize,
     pub chunk: u16,
@@ -202,20 +202,20 @@ pub fn step(message: &[u8], next_chunk: usize, cursor: Cursor) -> CursorStep
 }
 
 // A reader that holds the message, the place of its next chunk and the other numbers.
-#[derive(Drop)]
+#[derive(Clone, Copy)]
 pub struct FeedbackReader<'a> {
     pub message: &'a [u8],
     pub next_chunk: usize,
     pub cursor: Cursor,
 }
 
-#[derive(Drop)]
+#[derive(Clone, Copy)]
 pub struct ReaderStart<'a> {
     pub reader: FeedbackReader<'a>,
     pub judged: Judged,
 }
 
-#[derive(Drop)]
+#[derive(Clone, Copy)]
 pub struct ReaderStep<'a> {
     pub reader: FeedbackReader<'a>,
     pub packet: OptionPacket,

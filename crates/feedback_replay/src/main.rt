@@ -15,7 +15,7 @@ const PACKET_BYTES: usize = 8;
 // More than any case's message and packets need.
 const ROOM: usize = 1_000_000;
 
-#[derive(Drop)]
+#[derive(Clone, Copy)]
 struct Case {
     length: u32,
     number: u32,

@@ -67,7 +67,7 @@ fn digit(c: u64) -> u64 {
 }
 
 // A number in hexadecimal, and the byte after it.
-#[derive(Drop)]
+#[derive(Clone, Copy)]
 struct Number {
     value: u64,
     end: u64,

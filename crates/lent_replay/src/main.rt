@@ -122,7 +122,7 @@ fn call(link: Link, lists: &[u64], i: Case) -> Called {
 }
 
 // The lent link, whether its words were whole and are its own, and the counts.
-#[derive(Drop)]
+#[derive(Clone, Copy)]
 struct Done {
     link: Link,
     lent: bool,

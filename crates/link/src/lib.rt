@@ -12,14 +12,14 @@ use link_state::Link;
 use questions::{OptionRefusal, Refusal};
 
 // What an accepted call returns beside the link.
-#[derive(Drop)]
+#[derive(Clone, Copy)]
 pub struct Estimate {
     pub bitrate: Bitrate,
     pub hypothesis: BandwidthUsage,
     pub next_timeout: u64,
 }
 
-#[derive(Drop)]
+#[derive(Clone, Copy)]
 pub enum Answer {
     Accepted(Estimate),
     Refused(Refusal),
@@ -37,21 +37,21 @@ impl Answer {
     }
 }
 
-#[derive(Drop)]
+#[derive(Clone, Copy)]
 pub struct Called {
     pub answer: Answer,
     pub link: Link,
 }
 
 // An accepted opening. Its fields are private: `judge` alone makes one.
-#[derive(Drop)]
+#[derive(Clone, Copy)]
 pub struct Opening {
     start_bitrate: Bitrate,
     initial_window: u64,
     window: u64,
 }
 
-#[derive(Drop)]
+#[derive(Clone, Copy)]
 pub enum Opened {
     Accepted(Opening),
     Refused(Refusal),
@@ -97,7 +97,7 @@ impl Opening {
 
 // ---- a report's packets to the acknowledged rate
 // The acknowledged-rate estimator after a report's packets, and whether its byte sum stayed in its limit.
-#[derive(Drop)]
+#[derive(Clone, Copy)]
 struct Acknowledged {
     acked: AckedBitrateEstimator,
     sums_in: bool,
@@ -134,7 +134,7 @@ fn acknowledge(acked: AckedBitrateEstimator, remotes: &[u64], sizes: &[u64]) -> 
 
 // ---- report
 // What questions 4 to 9 say of a report, and the acknowledged-rate estimator after it, which a no leaves as it was.
-#[derive(Drop)]
+#[derive(Clone, Copy)]
 pub struct Judged {
     pub refusal: OptionRefusal,
     pub acked: AckedBitrateEstimator,

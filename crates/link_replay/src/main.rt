@@ -128,7 +128,7 @@ fn next_waiting(lists: &mut [u64], n: usize, i: Case) -> usize {
 }
 
 // The link after a case, and the number of the question that turned the call down, or 0.
-#[derive(Drop)]
+#[derive(Clone, Copy)]
 struct Numbered {
     link: Link,
     number: u64,
@@ -175,7 +175,7 @@ fn words(next: Numbered, waiting: usize, i: Case) -> [u64; 6] {
 }
 
 // The link after some cases, how many packets wait for a report, and the counts.
-#[derive(Drop)]
+#[derive(Clone, Copy)]
 struct Done {
     link: Link,
     waiting: usize,

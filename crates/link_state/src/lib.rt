@@ -12,7 +12,7 @@ use rate_control::RateControl;
 use time::{OptionDuration, OptionInstant, TimeDelta};
 use trendline::{Delays, History, OptionOveruse, TrendlineEstimator};
 
-#[derive(Drop)]
+#[derive(Clone, Copy)]
 pub struct Link {
     pub acked: AckedBitrateEstimator,
     pub control: DelayController,

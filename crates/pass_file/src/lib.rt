@@ -15,7 +15,7 @@ use link_state::Link;
 use pass_records::Judged;
 
 // A listing of so many bytes, or the first question that the file fails.
-#[derive(Drop)]
+#[derive(Clone, Copy)]
 pub enum Listed {
     Listing(usize),
     BadLength,
@@ -72,7 +72,7 @@ fn probe(bytes: &[u8]) -> OptionBitrate
 }
 
 // The number that a report gets, and the acknowledged-rate estimator after it.
-#[derive(Drop)]
+#[derive(Clone, Copy)]
 struct JudgedReport {
     number: u64,
     acked: AckedBitrateEstimator,

@@ -22,7 +22,7 @@ pub const REPORT: u8 = 2;
 pub const TIMEOUT: u8 = 3;
 
 // What follows a record in its chain, or the question that it fails.
-#[derive(Drop)]
+#[derive(Clone, Copy)]
 enum Following {
     Next(usize),
     End,
@@ -31,7 +31,7 @@ enum Following {
 }
 
 // Whether a file's chain is linked and its listing has room, or the first question that the file fails.
-#[derive(Drop)]
+#[derive(Clone, Copy)]
 pub enum Judged {
     Linked,
     BadLength,

@@ -19,7 +19,7 @@ const SHORT_RECORDS: u16 = 1_365;
 // How much of a listing is read at a time.
 const PART: usize = 4_096;
 
-#[derive(Drop)]
+#[derive(Clone, Copy)]
 struct Header {
     file: usize,
     output: usize,

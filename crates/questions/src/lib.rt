@@ -5,7 +5,7 @@ ghost use Rattle.questions.specs.Questions as Questions;
 use bandwidth::{Bitrate, DataSize, OptionBitrate};
 
 // The question that turned a call down.
-#[derive(Drop)]
+#[derive(Clone, Copy)]
 pub enum Refusal {
     OutOfRange,
     BadStartBitrate,
@@ -19,7 +19,7 @@ pub enum Refusal {
 }
 
 // The first question that is answered with no, if one is.
-#[derive(Drop)]
+#[derive(Clone, Copy)]
 pub enum OptionRefusal {
     None,
     Some(Refusal),

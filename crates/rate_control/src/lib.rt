@@ -8,21 +8,21 @@ use time::{OptionDuration, OptionInstant};
 
 const DEFAULT_BACKOFF_TIME: u64 = 100_000_000;
 
-#[derive(Drop)]
+#[derive(Clone, Copy)]
 pub enum Signal {
     Overuse,
     Underuse,
     Normal,
 }
 
-#[derive(Drop)]
+#[derive(Clone, Copy)]
 pub enum State {
     Increase,
     Hold,
     Decrease,
 }
 
-#[derive(Drop)]
+#[derive(Clone, Copy)]
 pub struct RateControl {
     pub state: State,
     pub estimated_bitrate: Bitrate,

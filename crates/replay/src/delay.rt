@@ -11,7 +11,7 @@ use time::OptionDuration;
 use trendline::{OptionOveruse, TrendlineEstimator};
 
 // The packets that wait for a report, with room for 128: send instants, then remote ones from place 128 on, then local ones from 256 on.
-#[derive(Drop)]
+#[derive(Clone, Copy)]
 pub struct Waiting {
     lists: [u64; 384],
     n: usize,

@@ -31,7 +31,7 @@ fn module(op: u64) -> usize
 }
 
 // The counts of each module, and of all.
-#[derive(Drop)]
+#[derive(Clone, Copy)]
 struct Modules {
     counts: [Counts; 8],
     all: Counts,
@@ -75,7 +75,7 @@ impl Modules {
 }
 
 // What the operations of each module work on.
-#[derive(Drop)]
+#[derive(Clone, Copy)]
 struct States {
     average: MovingAverage,
     acked: AckedBitrateEstimator,

@@ -6,7 +6,7 @@ ghost use Rattle.sqrt.specs.Sqrt.{sqrt, root_units, whole_root};
 ghost use Rattle.sqrt.specs.RootBits.{root_bits, Sized};
 
 // A root, by its bit pattern: base plus half of the whole root of big * 2^54, rounded up.
-#[derive(Drop)]
+#[derive(Clone, Copy)]
 struct Root {
     big: u64,
     base: u64,

@@ -9,35 +9,35 @@ use bandwidth::{Bitrate, DataSize};
 pub const MAX: u64 = 4_000_000_000_000_000_000;
 
 // Rust's `Option<Instant>`.
-#[derive(Drop)]
+#[derive(Clone, Copy)]
 pub enum OptionInstant {
     None,
     Some(u64),
 }
 
 // Rust's `Option<Duration>`.
-#[derive(Drop)]
+#[derive(Clone, Copy)]
 pub enum OptionDuration {
     None,
     Some(u64),
 }
 
 // Rust's `std::cmp::Ordering`.
-#[derive(Drop)]
+#[derive(Clone, Copy)]
 pub enum Ordering {
     Less,
     Equal,
     Greater,
 }
 
-#[derive(Drop)]
+#[derive(Clone, Copy)]
 pub enum Timestamp {
     DistantPast,
     Exact(u64),
     DistantFuture,
 }
 
-#[derive(Drop)]
+#[derive(Clone, Copy)]
 pub enum TimeDelta {
     NegativeInfinity,
     Negative(u64),

@@ -6,7 +6,7 @@ ghost use Rattle.twcc.specs.Judging as Judging;
 
 const HEADER_BYTES: usize = 8;
 
-#[derive(Drop)]
+#[derive(Clone, Copy)]
 pub struct Header {
     pub base_seq: u16,
     pub status_count: u16,
@@ -16,7 +16,7 @@ pub struct Header {
 }
 
 // A message is good, or fails a question.
-#[derive(Drop)]
+#[derive(Clone, Copy)]
 pub enum Judged {
     Good(Header),
     CutShort,
@@ -25,21 +25,21 @@ pub enum Judged {
 }
 
 // A packet that a message tells of: its sequence number, and if it was received its time in ticks of 250 µs from the reference.
-#[derive(Drop)]
+#[derive(Clone, Copy)]
 pub enum Packet {
     NotReceived(u16),
     Received(u16, i32),
 }
 
 // With the place of the first delta, 0 where the message fails a question.
-#[derive(Drop)]
+#[derive(Clone, Copy)]
 pub struct Judgement {
     pub judged: Judged,
     pub deltas: usize,
 }
 
 // Where the chunks end and how many bytes their deltas have, or the question that they fail.
-#[derive(Drop)]
+#[derive(Clone, Copy)]
 enum Chunks {
     End(usize, usize),
     CutShort,

@@ -36,7 +36,7 @@ fn sent(report: u64, i: u64) -> u64 {
     report * 50 + i * 5
 }
 
-#[derive(Drop)]
+#[derive(Clone, Copy)]
 struct Lists {
     sequences: [u64; 10],
     sizes: [u64; 10],
@@ -134,7 +134,7 @@ fn show(number: u64, bps: u64, refused: u64) {
 }
 
 // The link, and how many reports it refused.
-#[derive(Drop)]
+#[derive(Clone, Copy)]
 struct State {
     link: Link,
     refused: u64,

@@ -1,0 +1,42 @@
+-- Question 1; then a report in the order of receipt, or in any order.
+use mathlib.Core.Path.{◌≡◌, sym, ap, ◌∙◌}
+use Rattle.bool_laws.specs.Bools.{both}
+use Rattle.bandwidth.specs.declared.OptionBitrate.{OptionBitrate}
+use Rattle.questions.proofs.Laws.{was-no, was-yes}
+use Rattle.questions.specs.Questions.{Report, report-of}
+use Rattle.questions.specs.declared.Refusal.TheVariants.{OutOfRange}
+use Rattle.link_state.specs.declared.Link.{Link}
+use Rattle.link.specs.Link.{report}
+use Rattle.link.specs.Laws.{report-sorted}
+use Rattle.c_api.proofs.Laws.{bitrate-is, bitrate-no, call-out, code_is, code-no, hypothesis-is, hypothesis-no, next-timeout-is, next-timeout-no, words-is, words-kept}
+use Rattle.c_api.proofs.hornetpewter_report.Goals as goal
+
+-- the probe's result, as the contract says it
+probed : (l : Link) (r : Report) {q : OptionBitrate} → r.probe ≡ q → report l r ≡ report l (report-of r.sequences r.sizes r.sends r.remotes r.receives q r.now)
+probed l r e = ap (λ q. report l (report-of r.sequences r.sizes r.sends r.remotes r.receives q r.now)) e
+
+pub returns-then-not-in_range : goal.returns-then-not-in_range
+returns-then-not-in_range c =
+    let no = call-out _ c.load-lent.ensures _ (was-no c.in_range.ensures c.if-not-in_range.true) in
+    (code-no OutOfRange no c.code.type-inv c.code.ensures, (words-kept _ _ OutOfRange no, (bitrate-no OutOfRange no _, (hypothesis-no OutOfRange no _, next-timeout-no OutOfRange no _))))
+
+pub returns-then-is_sorted : goal.returns-then-is_sorted
+returns-then-is_sorted c =
+    let stored = c.report_in_order.ensures in
+    let sorted = c in
+    let q1 = sorted in
+    let good = both _ _ (was-yes q1.in_range.ensures q1.if-not-in_range.false) in
+    let loaded = q1.load-lent.ensures in
+    let told = report-sorted _ _ good.1 (sym sorted.is_sorted.ensures ∙ c.if-is_sorted.true) ∙ probed _ _ sorted.probe_result-result.ensures in
+    (code_is _ loaded _ good.0 told c.report_in_order.type-inv stored.0, (stored.1.0 ∙ words-is _ loaded _ good.0 told, (stored.1.1.0 ∙ bitrate-is _ loaded _ good.0 told _, (stored.1.1.1.0 ∙ hypothesis-is _ loaded _ good.0 told _, stored.1.1.1.1 ∙ next-timeout-is _ loaded _ good.0 told _))))
+
+pub returns : goal.returns
+returns c =
+    let stored = c.store.ensures in
+    let called = c in
+    let probe = called in
+    let q1 = probe in
+    let good = both _ _ (was-yes q1.in_range.ensures q1.if-not-in_range.false) in
+    let loaded = q1.load-lent.ensures in
+    let told = called.report-called.ensures ∙ probed _ _ probe.probe_result-result.ensures in
+    (code_is _ loaded _ good.0 told c.store.type-inv stored.0, (stored.1.0 ∙ words-is _ loaded _ good.0 told, (stored.1.1.0 ∙ bitrate-is _ loaded _ good.0 told _, (stored.1.1.1.0 ∙ hypothesis-is _ loaded _ good.0 told _, stored.1.1.1.1 ∙ next-timeout-is _ loaded _ good.0 told _))))

@@ -1,0 +1,37 @@
+-- Question 1, then question 7; else what the delay controller gives is stored and told.
+use mathlib.Core.Path.{refl, sym, ◌∙◌}
+use Rattle.bool_laws.specs.Bools.{both}
+use Rattle.questions.proofs.Laws.{was-no, was-yes}
+use Rattle.questions.specs.declared.Refusal.TheVariants.{OutOfRange}
+use Rattle.link_state.specs.declared.Link.{Link}
+use Rattle.link.specs.Laws.{timeout-from-7}
+use Rattle.link.proofs.Laws.{timed-refused, timed-taken, told}
+use Rattle.c_api.proofs.Laws.{bitrate-no, bitrate-yes, call-out, code-no, code-yes, hypothesis-no, hypothesis-yes, next-timeout-no, next-timeout-yes, reply-is, shown-is, timeout-taken, words-is, words-kept}
+use Rattle.c_api.proofs.hornetpewter_timeout.Goals as goal
+
+pub returns-then-not-in_range : goal.returns-then-not-in_range
+returns-then-not-in_range c =
+    let no = call-out _ c.load-lent.ensures _ (was-no c.in_range.ensures c.if-not-in_range.true) in
+    (code-no OutOfRange no c.code.type-inv c.code.ensures, (words-kept _ _ OutOfRange no, (bitrate-no OutOfRange no _, (hypothesis-no OutOfRange no _, next-timeout-no OutOfRange no _))))
+
+pub returns-in-Some : goal.returns-in-Some
+returns-in-Some c =
+    let q = c.in-Some.refusal in
+    let q7 = c in
+    let good = both _ _ (was-yes q7.in_range.ensures q7.if-not-in_range.false) in
+    let refused = timed-refused _ _ q (told q7.timeout-judged.ensures c.in-Some.is) ∙ sym (timeout-from-7 _ _ good.1) in
+    let no = sym (reply-is _ q7.load-lent.ensures _ good.0 refused) in
+    (code-no q no c.code-in-Some.type-inv c.code-in-Some.ensures, (words-kept _ _ q no, (bitrate-no q no _, (hypothesis-no q no _, next-timeout-no q no _))))
+
+pub returns : goal.returns
+returns c =
+    let tell = c.tell.ensures in
+    let update = c in
+    let q7 = update in
+    let load = q7.load-lent in
+    let good = both _ _ (was-yes q7.in_range.ensures q7.if-not-in_range.false) in
+    let after : Link = record { acked = load.result.acked; control = update.handle_timeout-control.result } in
+    let none = told q7.timeout-judged.ensures update.in_default.is in
+    let taken = timeout-from-7 _ _ good.1 ∙ sym (timed-taken _ _ none update.current_estimate.ensures update.handle_timeout-control.ensures) in
+    let yes = shown-is after taken ∙ reply-is _ load.ensures _ good.0 refl in
+    (code-yes after yes, (c.store_timeout.ensures ∙ timeout-taken after taken _ ∙ words-is _ load.ensures _ good.0 refl, (tell.0 ∙ bitrate-yes after yes _, (tell.1.0 ∙ hypothesis-yes after yes _, tell.1.1 ∙ next-timeout-yes after yes _))))

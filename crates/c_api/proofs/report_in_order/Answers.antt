@@ -1,0 +1,28 @@
+-- By the judgement: refused, or updated, stored and told.
+use mathlib.Core.Path.{ap, ◌∙◌}
+use Rattle.questions.specs.Laws.{number-above}
+use Rattle.link_state.specs.declared.Link.{Link}
+use Rattle.link.specs.Link.{Outcome}
+use Rattle.link.specs.Laws.{in-order-refused, in-order-taken}
+use Rattle.link.proofs.Laws.{judged-acked, judged-first}
+use Rattle.c_api.proofs.Laws.{bitrate-no, bitrate-yes, code-no, code-yes, hypothesis-no, hypothesis-yes, next-timeout-no, next-timeout-yes, shown-is, words-no, words-taken}
+use Rattle.c_api.proofs.report_in_order.Goals as goal
+
+pub returns-in-Some : goal.returns-in-Some
+returns-in-Some c =
+    let q = c.in-Some.question in
+    let first = judged-first _ _ c.judge_report-judged.ensures c.in-Some.is in
+    let no = ap (λ (o : Outcome). o.reply) (in-order-refused _ _ first (number-above q)) in
+    (code-no q no c.code.type-inv c.code.ensures, (words-no q no _ _, (bitrate-no q no _, (hypothesis-no q no _, next-timeout-no q no _))))
+
+pub returns : goal.returns
+returns c =
+    let tell = c.tell.ensures in
+    let update = c in
+    let told = update in
+    let judged = told.judge_report-judged.ensures in
+    let none = told.in_default.is in
+    let after : Link = record { acked = told.judge_report-judged.result.acked; control = update.update-control.result } in
+    let taken = in-order-taken _ _ (judged-first _ _ judged none) (judged-acked _ _ judged none) update.current_estimate.ensures update.update-control.ensures in
+    let yes = shown-is after taken in
+    (code-yes after yes, (c.store.ensures ∙ words-taken after taken _, (tell.0 ∙ bitrate-yes after yes _, (tell.1.0 ∙ hypothesis-yes after yes _, tell.1.1 ∙ next-timeout-yes after yes _))))

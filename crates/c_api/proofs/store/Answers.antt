@@ -1,0 +1,15 @@
+-- A refusal writes nothing; an accepted call's estimate and link go to their places.
+use mathlib.Core.Path.{refl, ap}
+use Rattle.link.specs.Link.{reply}
+use Rattle.c_api.proofs.Laws.{bitrate-no, code-no, hypothesis-no, next-timeout-no, words-no}
+use Rattle.c_api.proofs.store.Goals as goal
+
+pub returns-in-Refused : goal.returns-in-Refused
+returns-in-Refused c =
+    let q = c.in-Refused.refusal in
+    let no = ap reply c.in-Refused.is in
+    (code-no q no c.code.type-inv c.code.ensures, (words-no q no _ _, (bitrate-no q no _, (hypothesis-no q no _, next-timeout-no q no _))))
+
+pub returns-in-Accepted : goal.returns-in-Accepted
+returns-in-Accepted c =
+    rw c.in-Accepted.is (refl, (c.store.ensures, (refl, (c.hypothesis_tag.ensures, refl))))

@@ -1,0 +1,11 @@
+-- `pass_replay::replay` ends: it reads at most 1,000,000,000 files.
+use Prim.Native.Nat.{◌≤◌, ◌-◌}
+use mathlib.Core.Path.{◌≡◌}
+use lib.ListN.{length}
+use Rattle.pass_replay.proofs.replay.Given as goal
+
+abbrev pub invariant-loop : goal.invariant-loop
+invariant-loop l = (l.counter ≤ 1_000_000_000) × (length l.file ≡ length l.initial.file) × (length l.out ≡ length l.initial.out)
+
+abbrev pub decreases-loop : goal.decreases-loop
+decreases-loop l = 1_000_000_000 - l.counter

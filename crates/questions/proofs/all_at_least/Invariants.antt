@@ -1,0 +1,13 @@
+use Prim.Native.Nat.{◌≤◌, ◌-◌}
+use mathlib.Core.Path.{◌≡◌}
+use mathlib.Core.Bool.{◌&&◌}
+use lib.Dec.{leb}
+use lib.ListN.{length, drop}
+use Rattle.questions.specs.Questions.{every}
+use Rattle.questions.proofs.all_at_least.Given as goal
+
+abbrev pub invariant-loop-i : goal.invariant-loop-i
+invariant-loop-i l = (l.i ≤ length l.xs) × ((l.yes && every (λ x. leb l.least x) (drop l.i l.xs)) ≡ every (λ x. leb l.least x) l.xs)
+
+abbrev pub decreases-loop-i : goal.decreases-loop-i
+decreases-loop-i l = length l.xs - l.i

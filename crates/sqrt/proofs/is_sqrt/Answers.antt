@@ -1,0 +1,49 @@
+-- `sqrt::is_sqrt` meets its contract: each test sends one kind of float on (`Cases.antt`), and what is left is told by its bits (`Equal.antt`).
+use Rattle.std.proofs.Common.{sym, ap, ◌∙◌, arith}
+use lib.Ieee.{binary64, eq}
+use lib.Ieee.Bits.{of_bits-to_bits}
+use Rattle.sqrt.specs.Sqrt.{sqrt}
+use Rattle.sqrt.specs.RootBits.{root_bits}
+use Rattle.sqrt.proofs.Cases.{at-nan, root-of-nan, zero_same, at-below, at-infinity, no_nan, in-range}
+use Rattle.sqrt.specs.Units.{digits}
+use Rattle.sqrt.proofs.Equal.{nan_eq, eq-nan, by_bits}
+use Rattle.float_order.specs.Order.{is_true}
+use Rattle.sqrt.proofs.is_sqrt.Goals as goal
+
+pub returns-then-d : goal.returns-then-d
+returns-then-d c = rw (at-nan c.args.d c.if-d.true) (sym (nan_eq (sqrt c.args.v)))
+
+pub returns-then-v : goal.returns-then-v
+returns-then-v c = rw (at-nan c.args.v c.if-v.true, root-of-nan) (sym (eq-nan c.args.d))
+
+pub returns-then-v-2 : goal.returns-then-v-2
+returns-then-v-2 c = zero_same c.args.d c.args.v c.if-v-2.true
+
+pub returns-then-v-3 : goal.returns-then-v-3
+returns-then-v-3 c = rw (at-below c.args.v c.if-v-3.true) (sym (eq-nan c.args.d))
+
+pub float_to_bits-b : goal.float_to_bits-b
+float_to_bits-b c = no_nan _ c.if-v.false
+
+pub returns-then-b-eq9218868437227405312 : goal.returns-then-b-eq9218868437227405312
+returns-then-b-eq9218868437227405312 c =
+    let start = c in
+    ap (eq start.args.d) (at-infinity start.args.v start.well-formed.1.0.1 c.if-b-eq9218868437227405312.true)
+
+pub root_at-requires : goal.root_at-requires
+root_at-requires c =
+    let start = c in
+    in-range start.args.v start.well-formed.1.0.1 c.if-v.false c.if-v-2.false c.if-v-3.false c.if-b-eq9218868437227405312.false
+
+pub float_to_bits-d : goal.float_to_bits-d
+float_to_bits-d c = no_nan _ c.if-d.false
+
+pub returns : goal.returns
+returns c =
+    let start = c in
+    let r = c.root_at.result in
+    let s = c.root_at.ensures.0 in
+    let d = digits r.big r.base s in
+    c.has_bits.ensures
+    ∙ by_bits (root_bits r.big r.base) (omega (arith, d.0)) (omega (arith, d.1)) start.args.d (is_true _ start.well-formed.0.1)
+    ∙ ap (eq start.args.d) (sym c.root_at.ensures.1 ∙ ap sqrt (of_bits-to_bits binary64 start.args.v (is_true _ start.well-formed.1.0.1)))

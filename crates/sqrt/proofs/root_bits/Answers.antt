@@ -1,0 +1,18 @@
+-- `sqrt::root_bits` meets its contract: a pattern that passed the test is the root's.
+use Rattle.std.proofs.Common.{sym, ◌∙◌, arith, eqb-true}
+use Rattle.sqrt.specs.Units.{digits}
+use Rattle.sqrt.proofs.root_bits.Goals as goal
+
+pub returns-then-has_bits : goal.returns-then-has_bits
+returns-then-has_bits c = eqb-true _ _ (sym c.has_bits.ensures ∙ c.if-has_bits.true)
+
+pub returns-then-has_bits-2 : goal.returns-then-has_bits-2
+returns-then-has_bits-2 c = eqb-true _ _ (sym c.has_bits-2.ensures ∙ c.if-has_bits-2.true)
+
+pub returns-then-has_bits-3 : goal.returns-then-has_bits-3
+returns-then-has_bits-3 c = eqb-true _ _ (sym c.has_bits-3.ensures ∙ c.if-has_bits-3.true)
+
+pub overflow_add-result : goal.overflow_add-result
+overflow_add-result c =
+    let start = c in
+    omega (arith, c.root54.ensures, (digits start.args.r.big start.args.r.base start.requires).1)

@@ -1,0 +1,14 @@
+-- `status_chunk::any_reserved` meets its contract: by the kind of chunk.
+use mathlib.Core.Path.{sym, ◌∙◌}
+use native.Mathlib.Omega.{arith}
+use Rattle.status_chunk.specs.Laws.{take-symbols, run-reserved, one-bit-unreserved}
+use Rattle.status_chunk.proofs.any_reserved.Goals as goal
+
+pub returns-then-chunk-lt-STATUS_VECTOR : goal.returns-then-chunk-lt-STATUS_VECTOR
+returns-then-chunk-lt-STATUS_VECTOR c = run-reserved c.args.chunk 0 c.covered-all.result c.if-chunk-lt-STATUS_VECTOR.true ∙ simp (take-symbols, c.covered-all.ensures)
+
+pub returns-then-chunk-lt-TWO_BIT_VECTOR : goal.returns-then-chunk-lt-TWO_BIT_VECTOR
+returns-then-chunk-lt-TWO_BIT_VECTOR c = sym (simp take-symbols (one-bit-unreserved c.args.chunk (omega arith) (omega arith) 0 _))
+
+pub returns : goal.returns
+returns c = c.two_bit_reserved.ensures ∙ simp (take-symbols, c.covered-all.ensures)

@@ -1,7 +1,0 @@
--- `OptionDuration::copied` meets its contract: each arm puts its variant together again.
-use Rattle.std.proofs.Common.{rules}
-use Rattle.time.proofs.OptionDuration.copied.Statement.{statement}
-use Rattle.time.proofs.OptionDuration.copied.Tie as tie
-
-pub copied-spec : {M : Type 1} → statement M
-copied-spec = tie.close (tie.spec (λ c. search rules) (λ c. search rules) (λ c. search rules) (λ c. cc))

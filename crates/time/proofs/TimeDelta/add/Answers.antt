@@ -1,0 +1,11 @@
+-- `time::TimeDelta::add` meets its contract: the calls' equations, and what is limited is within the limits.
+use Rattle.time.specs.Time.{add}
+use Rattle.time.specs.Laws.{within}
+use Rattle.time.proofs.TimeDelta.add.Goals as goal
+
+pub add_limited-requires : goal.add_limited-requires
+add_limited-requires c = (within _ c.limited.ensures, within _ c.limited-2.ensures)
+
+pub returns : goal.returns
+unfolding add
+returns c = simp (← c.add_limited.ensures, ← c.limited-2.ensures, ← c.limited.ensures)
