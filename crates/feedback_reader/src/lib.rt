@@ -1,5 +1,7 @@
 // A reader of feedback messages: started by judging, each step hands out the next packet and the reader after it.
 // `start` and `step` work on a plain slice with a place and a cursor; a FeedbackReader holds all three.
+#![tactic(auto)]
+
 ghost use Rattle.std.specs.Prelude.{◌≡◌, ◌+◌, ◌<◌, ◌≤◌, length, drop};
 ghost use Rattle.twcc.specs.Feedback as Feedback;
 ghost use Rattle.feedback_reader.specs.Reader as Reader;

@@ -7,7 +7,7 @@ use native.Mathlib.Omega.{arith}
 use Rattle.std.specs.Int.Count.{ones, ones_step}
 use Rattle.std.proofs.Math.Seq.{take-nil}
 use Rattle.std.proofs.Math.Pow.{field, shr-shr, mod-mod-pow}
-use borrow.Author.Tests.{lt-ltb, le-ltb, ltb-true, ltb-false, eq-eqb, ne_eqb}
+use borrow.Author.Tests.{lt-ltb, le-ltb, ltb-true, eq-eqb, ne_eqb}
 use Rattle.bool_laws.specs.Bools.{cases}
 use Rattle.status_chunk.specs.Chunk.{status_vector, two_bit_vector, reserved, two_bit, symbol_count, symbol, symbols_from, symbols_of, delta_bytes, any_reserved}
 

@@ -1,4 +1,6 @@
 // A packet status chunk of a feedback message: 16 bits that stand for a list of status symbols.
+#![tactic(auto)]
+
 ghost use Rattle.std.specs.Prelude.{◌≡◌, ◌-◌, ◌<◌, ◌≤◌, min, take};
 ghost use Rattle.status_chunk.specs.Chunk as Chunk;
 

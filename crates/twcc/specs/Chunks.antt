@@ -1,6 +1,6 @@
 -- Laws of the chunks: bytes two by two, the symbols of a chunk before those of the chunks after it.
-use Rattle.std.specs.Prelude.{◌≡◌, refl, ℕ, zero, suc, ◌+◌, ◌*◌, ◌-◌, ◌≤◌, ◌<◌, min, Bool, true, false, List, [], ◌∷◌, ◌++◌, ltb, length, get_or, drop}
-use Rattle.std.proofs.Common.{sym, ap, ◌∙◌, arith, add-one, drop-cons, lt-ltb, le-ltb, ltb-true, ltb-false}
+use Rattle.std.specs.Prelude.{◌≡◌, refl, ℕ, suc, ◌+◌, ◌≤◌, ◌<◌, Bool, true, false, List, ◌∷◌, ltb, length, get_or, drop}
+use Rattle.std.proofs.Common.{sym, arith, add-one, drop-cons, lt-ltb, le-ltb, ltb-true, ltb-false}
 
 -- ---- tests
 -- two tests that say the same

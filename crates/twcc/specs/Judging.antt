@@ -1,5 +1,5 @@
 -- What judging a message answers beside the judgement, and how it goes from chunk to chunk.
-use Rattle.std.specs.Prelude.{◌≡◌, refl, ℕ, zero, suc, ◌+◌, ◌*◌, ◌-◌, ◌≤◌, ◌<◌, min, Bool, true, ◌||◌, cond, List, [], ◌∷◌, ◌++◌, ltb, length, get_or, take, drop}
+use Rattle.std.specs.Prelude.{◌≡◌, refl, ℕ, zero, suc, ◌+◌, ◌*◌, ◌-◌, ◌≤◌, ◌<◌, min, Bool, true, cond, List, [], ◌∷◌, ◌++◌, ltb, length, take, drop}
 use Rattle.std.proofs.Math.Path.{sym, ap}
 use Rattle.std.proofs.Common.{◌∙◌, add-zero}
 use Rattle.std.proofs.Math.Bool.{false}
@@ -8,9 +8,9 @@ use Rattle.std.proofs.Math.Nat.{zero-add}
 use Rattle.std.proofs.Math.Dec.{eqb}
 use Rattle.std.proofs.Math.ListN.{length-append}
 use borrow.Author.Tests.{lt-ltb, le-ltb, eq-eqb, ne_eqb}
-use Rattle.status_chunk.specs.Chunk.{symbol_count, symbols_from, symbols_of, delta_bytes, any_reserved}
+use Rattle.status_chunk.specs.Chunk.{symbol_count, symbols_of, delta_bytes, any_reserved}
 use Rattle.status_chunk.specs.Laws.{take-length, take_split, take-symbols, any_append, bytes-append}
-use Rattle.twcc.specs.Feedback.{read_u16, header_bytes, status_count, read_header, chunk_symbols, chunk_bytes, symbols, deltas_at, deltas_end, judge_symbols, judge}
+use Rattle.twcc.specs.Feedback.{read_u16, header_bytes, status_count, read_header, chunk_symbols, chunk_bytes, symbols, deltas_at, judge_symbols, judge}
 use Rattle.twcc.specs.Chunks.{same_test, drop-two}
 use Rattle.twcc.specs.declared.Header.{Header}
 use Rattle.twcc.specs.declared.Judged.{Judged}

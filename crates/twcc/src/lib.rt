@@ -1,4 +1,6 @@
 // Transport-wide congestion control feedback messages, after the media source identifier: the header, the packet status chunks, the recv deltas. Judging one puts questions 14 to 16.
+#![tactic(auto)]
+
 ghost use Rattle.std.specs.Prelude.{◌≡◌, ◌+◌, ◌<◌, ◌≤◌, ◌^◌, ltb, length, drop};
 ghost use Rattle.twcc.specs.Feedback as Feedback;
 ghost use Rattle.twcc.specs.Numbers as Numbers;

@@ -1,5 +1,5 @@
 -- `feedback_reader::fill` meets its contract. The loop's invariant: what is found from here on is what is found from the first place on.
-use Rattle.std.proofs.Common.{◌+◌, ◌-◌, ◌<◌, ◌≤◌, length, drop, sym, refl, ◌∙◌, arith, length-drop, ltb-false, ltb-true}
+use Rattle.std.proofs.Common.{◌+◌, ◌<◌, ◌≤◌, length, drop, sym, refl, ◌∙◌, arith, length-drop, ltb-false, ltb-true}
 use Rattle.feedback_reader.specs.Filling.{filled-now, filled-end, filled-turn}
 use Rattle.feedback_reader.proofs.fill.Goals as goal
 use Rattle.feedback_reader.proofs.fill.Goals.{Else-cut_short}

@@ -13,4 +13,4 @@ pub returns : goal.returns
 unfolding packet
 returns c =
     rw (ne_eqb _ _ c.if-symbol-eq0.false)
-    (ap (Received c.args.sequence) (to_z-of_z (sfits_of {w = w32} {z = c.as_i32.result} c.as_i32.type-inv) ∙ c.as_i32.ensures))
+    (ap (Received c.args.sequence) (to_z-of_z (sfits_of {w = w32} {z = c.as_i32.result} c.as_i32.type_inv) ∙ c.as_i32.ensures))

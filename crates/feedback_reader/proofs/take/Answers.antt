@@ -7,8 +7,8 @@ unfolding taken
 returns c =
     simp (
       c.packet.ensures,
-      c.wrapping_add_u16.ensures,
+      c.wrapping_add_u16.ensures.value,
       c.byte_len.ensures,
-      c.wrapping_add_u32-ticks.ensures,
+      c.wrapping_add_u32-ticks.ensures.value,
       c.recv_delta.ensures,
     )

@@ -1,5 +1,5 @@
 -- `status_chunk::two_bit_bytes` meets its contract. The loop's invariant: the bytes counted, and those of the symbols left, are those of all.
-use Prim.Native.Nat.{◌-◌, ◌≤◌}
+use Prim.Native.Nat.{◌≤◌}
 use mathlib.Core.Path.{◌≡◌, sym, ◌∙◌}
 use native.Mathlib.Nat.{sub-zero}
 use native.Mathlib.Omega.{arith}

@@ -1,5 +1,4 @@
 -- `status_chunk::two_bit_reserved` meets its contract. The loop's invariant: the symbols left have a reserved one where all have one.
-use Prim.Native.Nat.{◌-◌}
 use mathlib.Core.Path.{◌≡◌, sym, ◌∙◌}
 use native.Mathlib.Nat.{sub-zero}
 use native.Mathlib.Omega.{arith}

@@ -21,4 +21,4 @@ pub overflow_sub-result-2 : goal.overflow_sub-result-2
 overflow_sub-result-2 c = rw (missing (goal.at.overflow_sub-result-2 c).Else-bits-lt2147483648) (record { sfits = omega arith })
 
 pub returns : goal.returns
-returns c = rw (to_z-of_z (sub-result-2 c), missing (goal.at.returns c).Else-bits-lt2147483648) (ap negsuc (omega arith) ∙ sym (signed_high 0x8000_0000 c.args.bits c.if-bits-lt2147483648.false (omega arith)))
+returns c = rw (to_z-of_z (overflow_sub-result-2 c), missing c) (ap negsuc (omega arith) ∙ sym (signed_high 0x8000_0000 c.args.bits c.if-bits-lt2147483648.false (omega arith)))

@@ -1,5 +1,5 @@
 -- `twcc::judge_chunks` meets its contract. The loop's invariant: what the chunks from here on say, after the deltas counted, is what all of them say.
-use Prim.Native.Nat.{◌+◌, ◌*◌, ◌-◌, ◌≤◌}
+use Prim.Native.Nat.{◌+◌, ◌*◌, ◌≤◌}
 use mathlib.Core.Path.{◌≡◌, refl, sym, ◌∙◌}
 use native.Mathlib.Omega.{arith}
 use lib.ListN.{length, drop, length-drop}
