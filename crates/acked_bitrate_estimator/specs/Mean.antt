@@ -14,7 +14,8 @@ use Rattle.float_order.specs.Order.{over, under, le→cross, cross→le, le_tran
 use Rattle.float_order.specs.Ops.{zero₊, add_rounds, mul-rounds, div-rounds, add-mono, add-nonneg, mul-nonneg, div-nonneg, mul_comm, mul-mono-r, div-mono-l, div-anti-r, nonneg-under, positive-over, add_comm}
 use Rattle.float_order.specs.Range.{In, finite-between, in-finite, in-positive}
 use Rattle.float_order.specs.Exact.{one, le-add}
-use Rattle.float_order.specs.Dyadic.{Is, two^, scale-exact, scale-add, rounds-le}
+use Rattle.float_order.specs.Dyadic.{Is, two^}
+use Rattle.float_order.proofs.Dyadic.{scale-exact, scale-add, rounds-le}
 
 -- ---- powers of two as bounds
 two^-fits : (n : ℕ) → n < 1024 → T (fits binary64 (two^ n))

@@ -19,8 +19,10 @@ use Rattle.float_order.specs.Range.{In, in-finite, finite-between}
 use Rattle.float_order.specs.Interval.{floats}
 use Rattle.float_order.specs.Exact.{one, add-le, sub-le, scale-le}
 use Rattle.float_order.specs.Error.{round-num}
-use Rattle.float_order.specs.Dyadic.{Is, dyadic-is, below-round, rounds-le, le-rounds}
-use Rattle.float_order.specs.Relative.{Units, Good, Fine, fine, closest-whole, units-over, units_under, units-sum, units-diff}
+use Rattle.float_order.specs.Dyadic.{Is}
+use Rattle.float_order.proofs.Dyadic.{dyadic-is, below-round, rounds-le, le-rounds}
+use Rattle.float_order.specs.Relative.{Units, Good, Fine, closest-whole}
+use Rattle.float_order.proofs.Relative.{fine, units-over, units_under, units-sum, units-diff}
 use Rattle.average.specs.Average.{new_average}
 
 -- ---- the largest float that is not above a / c: q * 2 ^ k of the smallest values, and a / c rounded is within 1 / 2 ^ 52 of it

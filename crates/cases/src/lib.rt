@@ -1,8 +1,11 @@
-// What the test programs share: a case of the oracle (tools/oracle), whether answers agree with it, how many cases differ, and lines with such counts.
-ghost use Rattle.std.specs.Prelude.{◌≡◌};
+// What the test programs share: a case of the oracle (tools/oracle), whether answers agree with it, how many cases differ, lines with such counts, and reading.
+#![tactic(auto)]
+
+ghost use Rattle.std.specs.Prelude.{◌≡◌, ◌≤◌, IfOk, length};
 ghost use Rattle.cases.specs.Cases as Cases;
 
-use libc::STDOUT_FILENO;
+use std::io;
+use std::io::Read;
 use std::num::wrapping_add_u64;
 
 // An operation, its inputs and the Rust's answers.
@@ -87,30 +90,41 @@ impl Counts {
     }
 
     // Prints a line: how many cases, how many of them differ.
-    pub fn print(self, name: &[u8]) {
-        print_line(name, self.cases, self.wrong);
+    pub fn print(self, rt: &impl Print, name: &str) -> io::Result<()> {
+        print_line(rt, name, self.cases, self.wrong)
     }
 
     // Prints which case is the first that differs, if one does.
-    pub fn print_first(self) {
+    pub fn print_first(self, rt: &impl Print) -> io::Result<()> {
         if self.wrong != 0 {
-            print_line(b"first", wrapping_add_u64(self.agreed, 1), 0);
+            print_line(rt, "first", wrapping_add_u64(self.agreed, 1), 0)?;
         }
+        Ok(())
     }
 
     // Prints all counts.
-    pub fn print_all(self, name: &[u8]) {
-        self.print(name);
-        print_line(b"packets", self.packets, 0);
-        self.print_first();
+    pub fn print_all(self, rt: &impl Print, name: &str) -> io::Result<()> {
+        self.print(rt, name)?;
+        print_line(rt, "packets", self.packets, 0)?;
+        self.print_first(rt)
     }
 }
 
-fn print_line(name: &[u8], a: u64, b: u64) {
-    io::write_all(STDOUT_FILENO, name);
-    io::write_all(STDOUT_FILENO, b" ");
-    io::print_decimal(STDOUT_FILENO, a);
-    io::write_all(STDOUT_FILENO, b" ");
-    io::print_decimal(STDOUT_FILENO, b);
-    io::write_all(STDOUT_FILENO, b"\n");
+fn print_line(rt: &impl Print, name: &str, a: u64, b: u64) -> io::Result<()> {
+    println!(rt; "{name} {a} {b}")
+}
+
+// Reads until the bytes are full or the input ends, and says how many it put at their start.
+pub fn read_full(input: &mut impl Read, bytes: &mut [u8]) -> io::Result<usize>
+    ensures { IfOk result (λ n. n ≤ length bytes.new) }
+{
+    let mut done = 0;
+    while done < bytes.len() {
+        let n = input.read(&mut bytes[done..])?;
+        if n == 0 {
+            break;
+        }
+        done += n;
+    }
+    Ok(done)
 }

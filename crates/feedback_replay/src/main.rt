@@ -3,9 +3,12 @@
 // reference time and feedback count, the last four 0 if refused; then the message; then of a good one 8 bytes a packet: sequence and received, 2 bytes each, and
 // ticks, 4 bytes.
 // Prints how many messages and how many of them differ, how many packets the good ones tell of, and the first message that differs.
+#![tactic(auto)]
+
 use cases::Counts;
 use feedback_reader::{Cursor, CursorStart, CursorStep, FeedbackReader, OptionPacket};
-use libc::STDIN_FILENO;
+use std::io;
+use std::io::Read;
 use twcc::{Header, Judged, Packet};
 
 const CASE_BYTES: usize = 24;
@@ -195,34 +198,34 @@ fn compared(c: Case, message: &[u8], told: &[u8]) -> bool {
 }
 
 // Reads a case's message and packets and compares. What is cut short or too long differs.
-fn read_and_compared(c: Case, bytes: &mut [u8]) -> bool {
+fn read_and_compared(input: &mut impl Read, c: Case, bytes: &mut [u8]) -> io::Result<bool> {
     let length = c.length as usize;
     let end = length + packets(c) as usize * PACKET_BYTES;
     if end > bytes.len() {
-        return false;
+        return Ok(false);
     }
-    let read = io::read_full(STDIN_FILENO, &mut bytes[0..end]) == end;
-    read & compared(c, &bytes[0..length], &bytes[length..end])
+    let read = cases::read_full(input, &mut bytes[0..end])? == end;
+    Ok(read & compared(c, &bytes[0..length], &bytes[length..end]))
 }
 
 // Every case of standard input.
-fn replay(bytes: &mut [u8]) -> Counts {
+fn replay(input: &mut impl Read, bytes: &mut [u8]) -> io::Result<Counts> {
     let mut counts = Counts::new();
     for _ in 0..1_000_000_000u64 {
         let mut words = [0u8; CASE_BYTES];
-        let read = io::read_full(STDIN_FILENO, &mut words);
+        let read = cases::read_full(input, &mut words)?;
         if read == 0 {
             break;
         }
         let c = read_case(&words);
-        let same = (read == CASE_BYTES) & read_and_compared(c, bytes);
+        let same = (read == CASE_BYTES) & read_and_compared(input, c, bytes)?;
         counts = counts.counted(packets(c) as u64, same);
     }
-    counts
+    Ok(counts)
 }
 
-fn main() {
+fn main(rt: HostRuntime) -> io::Result<()> {
     let mut bytes = [0u8; ROOM];
-    let counts = replay(&mut bytes);
-    counts.print_all(b"feedback");
+    let counts = replay(&mut rt.reader(), &mut bytes)?;
+    counts.print_all(&rt, "feedback")
 }

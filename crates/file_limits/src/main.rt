@@ -2,8 +2,11 @@
 // wants. A case is 12 words of 8 bytes, little-endian: an operation; length of the file, next and kind of record 1, length of the output, 0; number, length of the
 // listing, output that is wanted or 0, three times 0. All other bytes of the file are 0, but records 1,365, 1,366 and 65,535 are timeouts.
 // Prints how many cases there were and how many of them differ, and the first that differs.
+#![tactic(auto)]
+
 use cases::{Case, Counts};
-use libc::STDIN_FILENO;
+use std::io;
+use std::io::Read;
 
 // More than any case needs.
 const ROOM: usize = 65_537 * 48;
@@ -62,23 +65,23 @@ fn compared(c: Case, file: &mut [u8], out: &mut [u8]) -> bool {
 }
 
 // Every case of standard input.
-fn replay(file: &mut [u8], out: &mut [u8]) -> Counts {
+fn replay(input: &mut impl Read, file: &mut [u8], out: &mut [u8]) -> io::Result<Counts> {
     let mut counts = Counts::new();
     put_timeouts(file);
     for _ in 0..1_000_000u64 {
         let mut bytes = [0u8; 96];
-        if io::read_full(STDIN_FILENO, &mut bytes) < 96 {
+        if cases::read_full(input, &mut bytes)? < 96 {
             break;
         }
         counts = counts.counted(0, compared(Case::read(&bytes), file, out));
     }
-    counts
+    Ok(counts)
 }
 
-fn main() {
+fn main(rt: HostRuntime) -> io::Result<()> {
     let mut file = [0u8; ROOM];
     let mut out = [0u8; ROOM];
-    let counts = replay(&mut file, &mut out);
-    counts.print(b"file_limits");
-    counts.print_first();
+    let counts = replay(&mut rt.reader(), &mut file, &mut out)?;
+    counts.print(&rt, "file_limits")?;
+    counts.print_first(&rt)
 }

@@ -34,6 +34,8 @@ written r j l h =
 pub to-bits : (x : Float) (a c r j : ℕ) → 0 < c → HasValue x false a c → a * 2 ^ 1074 ≡ r * 2 ^ j * c → 2 ^ 52 ≤ r → r < 2 ^ 53
     → to_bits binary64 x ≡ j * 2 ^ 52 + r
 unfolding to_bits
+to-bits nan a c r j p v k l h = elim v [ ]
+to-bits (inf _) a c r j p v k l h = elim v [ ]
 to-bits (fin true m e) a c r j p v k l h = absurd (clash v.0)
   where
     clash : true ≡ false → ⊥

@@ -9,7 +9,7 @@ use Rattle.std.specs.Float.Ieee.Scale.{finite}
 use Rattle.std.specs.Float.Ieee.Positive.{positive}
 use Rattle.float_order.specs.Order.{ordered, le_refl, le_trans, le-ordered-l, le-ordered-r, lt→le, not-le→lt, neg-le}
 use Rattle.float_order.specs.Ops.{add-ordered, sub-ordered, mul-ordered, div-by-positive}
-use Rattle.float_order.specs.Range.{In, ends, inside, inside₄, four, add-in, sub_in, mul_in, div-in}
+use Rattle.float_order.specs.Range.{In, ends, inside, inside₄, four, add-in_lem, sub_in, mul_in, div-in}
 
 -- ---- the lesser and the greater of two values that are ordered
 abbrev pub lesser : Float → Float → Float
@@ -61,7 +61,7 @@ add_at {a} {b} {c} {d} h k E =
     let F = four (finite a) (finite b) (finite c) (finite d) E in
     let lo = add binary64 a c in
     let hi = add binary64 b d in
-    add-in h k (and_i (ends a b c d) _ E (and_i (le lo lo) _ (le_refl lo (add-ordered binary64 a c F.0 F.2)) (le_refl hi (add-ordered binary64 b d F.1 F.3))))
+    add-in_lem h k (and_i (ends a b c d) _ E (and_i (le lo lo) _ (le_refl lo (add-ordered binary64 a c F.0 F.2)) (le_refl hi (add-ordered binary64 b d F.1 F.3))))
 
 pub sub_at : {a b c d x y : Float} → In a b x → In c d y → T (ends a b c d) → In (sub binary64 a d) (sub binary64 b c) (sub binary64 x y)
 sub_at {a} {b} {c} {d} h k E =

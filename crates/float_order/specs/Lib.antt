@@ -13,7 +13,6 @@ pub mod Error
 pub mod Relative
 pub mod Dyadic
 pub mod Equal
-pub mod Gaps
 pub mod Casts
 pub mod Digits
 pub mod Bits

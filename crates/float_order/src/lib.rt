@@ -1,3 +1,5 @@
+#![tactic(auto)]
+
 // The order of `f64` values with signs, zeros and infinities, as mathematics for the specs and proofs of other crates: there is no code.
 // Others cite a file of `specs/` as `Rattle.float_order.specs.FILE`.
 //   Order, Round, Ops     `le` and `lt`; rounding keeps the order; each operation as the rounding of a fraction, monotone, of known sign, no NaN

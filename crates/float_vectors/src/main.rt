@@ -1,7 +1,11 @@
 // Compares the float helpers with answers of Rust's own `f64` and `Duration`: data/ has a file a function, made by
 // tools/float_vectors.rs. Each function gives a line: its name, how many records were read, how many answers differ.
+#![tactic(auto)]
+
 use cases::Counts;
 use std::num::wrapping_sub_usize;
+use std::rt::Files;
+use std::{fs, io};
 
 // What a function answers to a record's inputs, as the record would have it. f is the function's place in `main`.
 fn answer(f: u8, x: u64, y: u64, z: u64) -> u64 {
@@ -46,35 +50,35 @@ fn agrees(f: u8, size: usize, record: &[u8]) -> bool {
 }
 
 // Whether there was a record of `size` bytes to read.
-fn read(file: i32, size: usize, record: &mut [u8]) -> bool {
+fn read(file: &mut impl io::Read, size: usize, record: &mut [u8]) -> io::Result<bool> {
     if record.len() < size {
-        return false;
+        return Ok(false);
     }
-    io::read_full(file, &mut record[0..size]) == size
+    Ok(cases::read_full(file, &mut record[0..size])? == size)
 }
 
 // Compares a file of records of `size` bytes.
-fn compare(name: &[u8], f: u8, size: usize) {
-    let file = os::open_read(name);
+fn compare(rt: &(impl Files + Print), name: &str, f: u8, size: usize) -> io::Result<()> {
+    let mut file = fs::open(rt, name)?;
     let mut counts = Counts::new();
     for _ in 0..1_000_000u64 {
         let mut record = [0u8; 32];
-        if !read(file, size, &mut record) {
+        if !read(&mut file, size, &mut record)? {
             break;
         }
         counts = counts.counted(0, agrees(f, size, &record));
     }
-    counts.print(name);
+    counts.print(rt, name)
 }
 
-fn main() {
-    compare(b"sqrt", 0, 16);
-    compare(b"is_sqrt", 1, 24);
-    compare(b"ceil", 2, 16);
-    compare(b"abs", 3, 16);
-    compare(b"min", 4, 24);
-    compare(b"max", 5, 24);
-    compare(b"clamp", 6, 32);
-    compare(b"as_secs_f64", 7, 16);
-    compare(b"from_secs_f64", 8, 16);
+fn main(rt: HostRuntime) -> io::Result<()> {
+    compare(&rt, "sqrt", 0, 16)?;
+    compare(&rt, "is_sqrt", 1, 24)?;
+    compare(&rt, "ceil", 2, 16)?;
+    compare(&rt, "abs", 3, 16)?;
+    compare(&rt, "min", 4, 24)?;
+    compare(&rt, "max", 5, 24)?;
+    compare(&rt, "clamp", 6, 32)?;
+    compare(&rt, "as_secs_f64", 7, 16)?;
+    compare(&rt, "from_secs_f64", 8, 16)
 }

@@ -12,7 +12,8 @@ use Rattle.float_order.specs.Order.{over, ordered, finite-ordered, le_refl, le_t
 use Rattle.float_order.specs.Round.{round-ordered}
 use Rattle.float_order.specs.Exact.{one}
 use Rattle.float_order.specs.Range.{In}
-use Rattle.float_order.specs.Dyadic.{Is, is-of-value}
+use Rattle.float_order.specs.Dyadic.{Is}
+use Rattle.float_order.proofs.Dyadic.{is-of-value}
 use Rattle.float_order.specs.Bits.{to-bits}
 use Rattle.growth.specs.Growth.{Factor, numerator, growth, growth_factor}
 use Rattle.growth.specs.Numerator.{numerator-low, numerator-high, numerator-nearest, numerator-rises, unique}

@@ -1,4 +1,6 @@
 // Numbers in bytes, the least significant byte first. What lies past a slice's end counts as 0.
+#![tactic(auto)]
+
 ghost use Rattle.std.specs.Prelude.{◌≡◌, ◌≤◌, ◌<◌, ◌^◌, get_or, length};
 ghost use Rattle.le_bytes.specs.LeBytes.{le};
 

@@ -1,9 +1,12 @@
 // Question 1 at its limits. A line of standard input has the name of a clause and, parted by spaces, cases. A case sets words of a link (link_words), as
 // 86=4000000000000000,87=3ff6a09e667f3bcd does: two decimal digits, and a number in hexadecimal. The other words are those of a link with every option
 // present. Prints the name, and for each case the number that a timeout gives, 0 accepted and 1 refused, or a dash for words that are no link's.
+#![tactic(auto)]
+
 use bandwidth::Bitrate;
-use libc::{STDIN_FILENO, STDOUT_FILENO};
 use link::{Opened, Opening};
+use std::io;
+use std::io::Read;
 use std::num::{wrapping_add_u64, wrapping_sub_u64};
 
 fn opened() -> [u64; 100] {
@@ -47,12 +50,12 @@ fn wide(x: u8) -> u64 {
 }
 
 // The next byte, or 256 at the end.
-fn next() -> u64 {
+fn next(input: &mut impl Read) -> io::Result<u64> {
     let mut byte = [0u8; 1];
-    if io::read_full(STDIN_FILENO, &mut byte) < 1 {
-        return 256;
+    if input.read(&mut byte)? < 1 {
+        return Ok(256);
     }
-    wide(byte[0])
+    Ok(wide(byte[0]))
 }
 
 // The digit that a byte stands for, or 16.
@@ -73,54 +76,53 @@ struct Number {
     end: u64,
 }
 
-fn read_number() -> Number {
+fn read_number(input: &mut impl Read) -> io::Result<Number> {
     let mut value = 0u64;
     for _ in 0..17u64 {
-        let c = next();
+        let c = next(input)?;
         let d = digit(c);
         if d == 16 {
-            return Number { value, end: c };
+            return Ok(Number { value, end: c });
         }
         value = wrapping_add_u64(value % 0x1000_0000_0000_0000 * 16, d);
     }
-    Number { value, end: 256 }
+    Ok(Number { value, end: 256 })
 }
 
-fn write(c: u64) {
+fn write(rt: &impl Print, c: u64) -> io::Result<()> {
     let byte = [(c % 256) as u8];
-    io::write_all(STDOUT_FILENO, &byte);
+    rt.write_all(&byte)
 }
 
 // Prints a name; returns the byte after it, a colon if there is a line.
-fn name() -> u64 {
+fn name(rt: &impl Print, input: &mut impl Read) -> io::Result<u64> {
     for _ in 0..1000u64 {
-        let c = next();
+        let c = next(input)?;
         if (c == 58) | (c == 256) {
-            return c;
+            return Ok(c);
         }
-        write(c);
+        write(rt, c)?;
     }
-    256
+    Ok(256)
 }
 
-fn show(words: &[u64; 100]) {
-    io::write_all(STDOUT_FILENO, b" ");
+fn show(rt: &impl Print, words: &[u64; 100]) -> io::Result<()> {
     if link_words::formed(words) {
         let called = link::timeout(link_words::load(words), 1_000_000_000);
         let answer = called.answer;
-        io::print_decimal(STDOUT_FILENO, answer.number());
-    } else {
-        io::write_all(STDOUT_FILENO, b"-");
+        let number = answer.number();
+        return print!(rt; " {number}");
     }
+    print!(rt; " -")
 }
 
 // Asks a case; returns the byte after it, a space if there is another.
-fn case(link: [u64; 100]) -> u64 {
+fn case(rt: &impl Print, input: &mut impl Read, link: [u64; 100]) -> io::Result<u64> {
     let mut words = link;
     let mut end = 256;
     for _ in 0..100u64 {
-        let at = read_number();
-        let word = read_number();
+        let at = read_number(input)?;
+        let word = read_number(input)?;
         // Two decimal digits, which were read as hexadecimal ones.
         let i = (at.value / 16 % 10 * 10 + at.value % 16 % 10) as usize;
         words[i] = word.value;
@@ -129,27 +131,30 @@ fn case(link: [u64; 100]) -> u64 {
             break;
         }
     }
-    show(&words);
-    end
+    show(rt, &words)?;
+    Ok(end)
 }
 
-fn cases(link: [u64; 100]) {
+fn cases(rt: &impl Print, input: &mut impl Read, link: [u64; 100]) -> io::Result<()> {
     for _ in 0..1000u64 {
-        if case(link) != 32 {
+        if case(rt, input, link)? != 32 {
             break;
         }
     }
+    Ok(())
 }
 
-fn main() {
+fn main(rt: HostRuntime) -> io::Result<()> {
+    let mut input = rt.reader();
     let link = full();
     for _ in 0..1000u64 {
-        if name() != 58 {
+        if name(&rt, &mut input)? != 58 {
             break;
         }
-        write(58);
-        let _ = next();
-        cases(link);
-        write(10);
+        write(&rt, 58)?;
+        let _ = next(&mut input)?;
+        cases(&rt, &mut input, link)?;
+        write(&rt, 10)?;
     }
+    Ok(())
 }

@@ -2,15 +2,18 @@
 // 12 words of 8 bytes, little-endian: an operation, 5 inputs, 6 answers. Operation 90 lends the link whose 100 words (link_words) come next; a report, 92, has its
 // packets next, list by list; and after a report or a timeout, 93, come the 100 words of the link. Prints how many calls there were and how many of them differ, how
 // many packets they had, and the first call that differs.
+#![tactic(auto)]
+
 ghost use Rattle.std.specs.Prelude.{◌≤◌};
 
 use acked_bitrate_estimator::AckedBitrateEstimator;
 use bandwidth::{BandwidthUsage, Bitrate, OptionBitrate};
 use cases::{Case, Counts};
 use control::DelayController;
-use libc::STDIN_FILENO;
 use link::{Answer, Called};
 use link_state::Link;
+use std::io;
+use std::io::Read;
 
 // More packets than any report has.
 const ROOM: u64 = 40;
@@ -43,20 +46,20 @@ fn answers(answer: Answer) -> [u64; 6] {
 }
 
 // Reads numbers from standard input. Whether all were there.
-fn read_words(words: &mut [u64]) -> bool {
+fn read_words(input: &mut impl Read, words: &mut [u64]) -> io::Result<bool> {
     let n = words.len();
     if n > 200 {
-        return false;
+        return Ok(false);
     }
     let mut bytes = [0u8; 1600];
     let bytes = &mut bytes[0..8 * n];
-    let whole = io::read_full(STDIN_FILENO, bytes) == 8 * n;
+    let whole = cases::read_full(input, bytes)? == 8 * n;
     let mut i = 0;
     while i < n {
         words[i] = le_bytes::read_u64(bytes, 8 * i);
         i += 1;
     }
-    whole
+    Ok(whole)
 }
 
 fn same(a: &[u64; 100], b: &[u64; 100]) -> bool {
@@ -140,43 +143,48 @@ impl Done {
         }
     }
 
-    fn lend(self) -> Self {
+    fn lend(self, input: &mut impl Read) -> io::Result<Self> {
         let mut done = self;
         let mut words = [0u64; 100];
-        let whole = read_words(&mut words);
+        let whole = read_words(input, &mut words)?;
         let link = link_words::load(&words);
         done.link = link;
         done.lent = whole & link_words::formed(&words) & same(&link_words::words(link), &words);
-        done
+        Ok(done)
     }
 
-    fn run(self, i: Case) -> Self {
+    fn run(self, input: &mut impl Read, i: Case) -> io::Result<Self> {
         let mut done = self;
         let n = packets(i);
         let mut room = [0u64; 200];
         let mut after = [0u64; 100];
         let lists = &mut room[0..5 * n];
-        let whole = read_words(lists);
+        let whole = read_words(input, lists)?;
         let called = call(done.link, lists, i);
         let link = called.link;
         let answer = called.answer;
-        let whole = done.lent & whole & read_words(&mut after);
+        let whole = done.lent & whole & read_words(input, &mut after)?;
         let agrees = whole & i.agrees(answers(answer)) & same(&link_words::words(link), &after);
         done.link = link;
         done.counts = done.counts.counted(n as u64, agrees);
-        done
+        Ok(done)
     }
 }
 
-fn main() {
+fn main(rt: HostRuntime) -> io::Result<()> {
+    let mut input = rt.reader();
     let mut done = Done::new();
     for _ in 0..1_000_000_000u64 {
         let mut bytes = [0u8; 96];
-        if io::read_full(STDIN_FILENO, &mut bytes) < 96 {
+        if cases::read_full(&mut input, &mut bytes)? < 96 {
             break;
         }
         let i = Case::read(&bytes);
-        done = if i.op == 90 { done.lend() } else { done.run(i) };
+        done = if i.op == 90 {
+            done.lend(&mut input)?
+        } else {
+            done.run(&mut input, i)?
+        };
     }
-    done.counts.print_all(b"lent");
+    done.counts.print_all(&rt, "lent")
 }

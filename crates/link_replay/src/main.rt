@@ -1,13 +1,15 @@
 // Replays cases of whole links (tools/oracle, module link) from standard input and compares every answer to the bit. A case is 12 words of 8 bytes,
 // little-endian: an operation, 5 inputs, 6 answers; a packet waits for its report and its answers are 0. Prints how many cases and how many of them differ, how many
 // of them are packets, and the first case that differs.
+#![tactic(auto)]
+
 use acked_bitrate_estimator::AckedBitrateEstimator;
 use bandwidth::{BandwidthUsage, Bitrate, OptionBitrate};
 use cases::{Case, Counts};
 use control::DelayController;
-use libc::STDIN_FILENO;
 use link::{Called, Opened, Opening};
 use link_state::Link;
+use std::io;
 use std::num::wrapping_sub_usize;
 use time::TimeDelta;
 use trendline::{OptionOveruse, TrendlineEstimator};
@@ -205,15 +207,16 @@ impl Done {
     }
 }
 
-fn main() {
+fn main(rt: HostRuntime) -> io::Result<()> {
+    let mut input = rt.reader();
     let mut done = Done::new();
     let mut lists = [0u64; 5500];
     for _ in 0..1_000_000_000u64 {
         let mut bytes = [0u8; 96];
-        if io::read_full(STDIN_FILENO, &mut bytes) < 96 {
+        if cases::read_full(&mut input, &mut bytes)? < 96 {
             break;
         }
         done = done.run(&mut lists, Case::read(&bytes));
     }
-    done.counts.print_all(b"link");
+    done.counts.print_all(&rt, "link")
 }

@@ -13,7 +13,7 @@ use Rattle.float_order.specs.Order.{ordered, le_trans, not-le→lt}
 use Rattle.float_order.specs.Ops.{zero₊}
 use Rattle.float_order.specs.Range.{In, Within, nat, in-finite, in-ordered, in-wider}
 use Rattle.float_order.specs.Interval.{floats}
-use Rattle.float_order.specs.Gaps.{gap-large}
+use Rattle.float_order.proofs.Gaps.{gap-large}
 use Rattle.bool_laws.specs.Bools.{is_true}
 use Rattle.average.specs.Laws.{AverageIn, std-in}
 use Rattle.average.specs.Laws as Averages

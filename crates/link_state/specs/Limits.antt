@@ -12,7 +12,7 @@ use Rattle.float_order.specs.Order.{over, under, finite-ordered, le-ordered-l, l
 use Rattle.float_order.specs.Ops.{zero₊, nonneg-under, nonpos-over}
 use Rattle.float_order.specs.Range.{nat, -nat, finite-between}
 use Rattle.float_order.specs.Interval.{floats}
-use Rattle.float_order.specs.Gaps.{gap, gap-large}
+use Rattle.float_order.proofs.Gaps.{gap, gap-large}
 use Rattle.bool_laws.specs.Bools.{same-holds}
 use Rattle.link_state.specs.State.{most30, most31, least_acked}
 

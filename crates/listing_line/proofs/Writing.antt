@@ -88,12 +88,14 @@ lengths «record» number letter bits next_timeout a b = record {
 }
 
 -- the answer with room, and without
-pub with-room :
-    {old new text : List ℕ} {at next : ℕ} → at + length text ≤ length old → Wrote old at text new next
-    → (new ≡ put_line old at text) × (next ≡ place_after old at text)
-with-room {old} {text = text} {at} h w = let v = put-room old at text h in (cc, cc)
+pub with-room : {old new text : List ℕ} {at next : ℕ} → at + length text ≤ length old → Wrote old at text new next → new ≡ put_line old at text
+with-room {old} {text = text} {at} h w = let v = put-room old at text h in cc
 
-pub without-room :
-    (out : List ℕ) (at : ℕ) (text : List ℕ) → length out < at + length text
-    → (out ≡ put_line out at text) × (at ≡ place_after out at text)
-without-room out at text h = let v = put-no-room out at text h in (cc, cc)
+pub with-room-place : {old new text : List ℕ} {at next : ℕ} → at + length text ≤ length old → Wrote old at text new next → next ≡ place_after old at text
+with-room-place {old} {text = text} {at} h w = let v = put-room old at text h in cc
+
+pub without-room : (out : List ℕ) (at : ℕ) (text : List ℕ) → length out < at + length text → out ≡ put_line out at text
+without-room out at text h = let v = put-no-room out at text h in cc
+
+pub without-room-place : (out : List ℕ) (at : ℕ) (text : List ℕ) → length out < at + length text → at ≡ place_after out at text
+without-room-place out at text h = let v = put-no-room out at text h in cc

@@ -69,11 +69,6 @@ module _ («record» number letter bits next_timeout : ℕ) where
   unfolding line
   length-line = simp (length-append, length_digits) (omega arith)
 
-  -- a line of a pass file: at most five digits of a record's number, one of a refusal, 19 of a moment
-  pub line-short : «record» ≤ 65535 → number ≤ 9 → next_timeout ≤ 2_000_000_000_000_000_000 → length (line «record» number letter bits next_timeout) ≤ 48
-  line-short h i j =
-      omega (arith, length-line, width-le 4 «record» (omega arith), width-le 0 number (omega arith), width-le 18 next_timeout (omega arith))
-
 -- ---- the bytes of a line: 0 to 9, a to f, the letter, a space, a line feed
 pub data Printed (letter x : ℕ) : Type 0 where
   zero-to-nine : 48 ≤ x → x ≤ 57 → Printed letter x
@@ -137,9 +132,6 @@ module _ (out : List ℕ) (at : ℕ) (text : List ℕ) where
   pub put-room : at + length text ≤ length out → Wrote out at text (put_line out at text) (place_after out at text)
   unfolding put_line place_after
   put-room h = rw (le-leb (at + length text) (length out) h) (record { bytes = refl; after = refl })
-
-  pub put-around : at + length text ≤ length out → put_line out at text ≡ take at out ++ text ++ drop (at + length text) out
-  put-around h = (put-room h).bytes ∙ sets-eq text out at h
 
   -- without, nothing is
   pub put-no-room : length out < at + length text → (put_line out at text ≡ out) × (place_after out at text ≡ at)

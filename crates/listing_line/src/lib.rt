@@ -1,4 +1,6 @@
 // Document 01, pass file and program: one line of the listing, or a number alone on a line, written into a lent buffer.
+#![tactic(auto)]
+
 ghost use Rattle.std.specs.Prelude.{◌≡◌, [], ◌∷◌, ◌+◌, ◌≤◌, ◌<◌, length};
 ghost use Rattle.listing_line.specs.ListingLine as Line;
 

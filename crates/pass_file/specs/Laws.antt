@@ -22,7 +22,7 @@ use Rattle.pass_records.specs.PassRecords.{chain, judge, kind, most_records, mos
 use Rattle.pass_records.specs.Laws.{Rising, least-enough, linked-file}
 use Rattle.pass_records.specs.declared.Judged.{Judged}
 use Rattle.pass_records.specs.declared.Judged.TheVariants.{Linked, BadLength, BadKind, BadNext, ShortOutput}
-use Rattle.listing_line.specs.Laws.{line-short}
+use Rattle.listing_line.proofs.Lines.{line-short}
 use Rattle.pass_file.specs.PassFile as PassFile
 use Rattle.pass_file.specs.PassFile.{Numbered, answer_unless, calls, first, letter, lines, list, listed, listing, shown}
 

@@ -1,4 +1,6 @@
 // The records of a pass file, the chain that links them, and questions 10 to 13. A record has 48 bytes, and records are numbered from 1.
+#![tactic(auto)]
+
 ghost use Rattle.std.specs.Prelude.{◌≡◌, ◌<◌, ◌≤◌};
 ghost use Rattle.pass_records.specs.PassRecords as Records;
 

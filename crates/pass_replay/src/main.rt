@@ -2,9 +2,12 @@
 // little-endian: length of the file, length of the output, number, length of the listing, linked packets; then the file and the listing.
 // A file is listed with up to 65,535 records, then with up to 1,365: what has no more gets the same, and a longer one 10.
 // Prints how many files and how many of them differ, how many packets are linked in those that are listed, and the first file that differs.
+#![tactic(auto)]
+
 use cases::Counts;
-use libc::STDIN_FILENO;
 use pass_file::Listed;
+use std::io;
+use std::io::Read;
 
 // What the output holds before a file is listed.
 const UNWRITTEN: u8 = 0xa5;
@@ -65,24 +68,24 @@ fn has(out: &[u8], at: usize, text: &[u8]) -> bool {
 }
 
 // Whether the next n bytes of standard input, at most a part, are the output's at a place.
-fn reads(out: &[u8], at: usize, n: usize) -> bool {
+fn reads(input: &mut impl Read, out: &[u8], at: usize, n: usize) -> io::Result<bool> {
     if n > PART {
-        return false;
+        return Ok(false);
     }
     let mut part = [0u8; PART];
     let part = &mut part[0..n];
-    (io::read_full(STDIN_FILENO, part) == n) & has(out, at, part)
+    Ok((cases::read_full(input, part)? == n) & has(out, at, part))
 }
 
 // Whether the output starts with so many bytes of standard input, and is unwritten after them.
-fn holds(out: &[u8], bytes: usize) -> bool {
+fn holds(input: &mut impl Read, out: &[u8], bytes: usize) -> io::Result<bool> {
     let mut same = true;
     let mut at = 0;
     while PART <= bytes - at {
-        same = same & reads(out, at, PART);
+        same = same & reads(input, out, at, PART)?;
         at += PART;
     }
-    same & reads(out, at, bytes - at) & unwritten(out, bytes)
+    Ok(same & reads(input, out, at, bytes - at)? & unwritten(out, bytes))
 }
 
 fn answers(listed: Listed, number: u64, bytes: usize) -> bool {
@@ -115,43 +118,48 @@ fn read_header(header: &[u8]) -> Header {
 }
 
 // Reads a case's file and listing and compares. What is cut short or too long differs.
-fn compared(c: Header, file: &mut [u8], out: &mut [u8]) -> bool {
+fn compared(
+    input: &mut impl Read,
+    c: Header,
+    file: &mut [u8],
+    out: &mut [u8],
+) -> io::Result<bool> {
     let n = c.file;
     let room = c.output;
     let bytes = c.listing;
     let number = c.number as u64;
     if n > file.len() {
-        return false;
+        return Ok(false);
     }
     if room > out.len() {
-        return false;
+        return Ok(false);
     }
     let file = &mut file[0..n];
     let out = &mut out[0..room];
-    let read = io::read_full(STDIN_FILENO, file) == n;
+    let read = cases::read_full(input, file)? == n;
     unwrite(out);
     let listed = pass_file::list(file, out, pass_records::MOST_RECORDS);
-    let same = answers(listed, number, bytes) & holds(out, bytes);
-    read & same & agrees_below(file, out, number, bytes)
+    let same = answers(listed, number, bytes) & holds(input, out, bytes)?;
+    Ok(read & same & agrees_below(file, out, number, bytes))
 }
 
 // Every case of standard input.
-fn replay(file: &mut [u8], out: &mut [u8]) -> Counts {
+fn replay(input: &mut impl Read, file: &mut [u8], out: &mut [u8]) -> io::Result<Counts> {
     let mut counts = Counts::new();
     for _ in 0..1_000_000_000u64 {
         let mut header = [0u8; 20];
-        if io::read_full(STDIN_FILENO, &mut header) < 20 {
+        if cases::read_full(input, &mut header)? < 20 {
             break;
         }
         let c = read_header(&header);
-        counts = counts.counted(c.packets as u64, compared(c, file, out));
+        counts = counts.counted(c.packets as u64, compared(input, c, file, out)?);
     }
-    counts
+    Ok(counts)
 }
 
-fn main() {
+fn main(rt: HostRuntime) -> io::Result<()> {
     let mut file = [0u8; ROOM];
     let mut out = [0u8; ROOM];
-    let counts = replay(&mut file, &mut out);
-    counts.print_all(b"pass_file");
+    let counts = replay(&mut rt.reader(), &mut file, &mut out)?;
+    counts.print_all(&rt, "pass_file")
 }

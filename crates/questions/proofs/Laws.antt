@@ -2,20 +2,19 @@
 use Prim.Native.Nat.{ℕ, ◌+◌, ◌<◌, ◌≤◌}
 use native.Mathlib.Numerals.{add-one}
 use mathlib.Core.Path.{◌≡◌, sym, ◌∙◌}
-use mathlib.Core.Bool.{Bool, true, false, ◌&&◌, not, and_assoc, and-true}
+use mathlib.Core.Bool.{Bool, true, false, ◌&&◌, and_assoc, and-true}
 use mathlib.Core.List.{List}
 use lib.ListN.{length, drop, drop_of_length-le, get_or}
 use lib.Seq.{drop-cons}
-use borrow.Author.Tests.{not-true, not-false}
 use Rattle.questions.specs.Questions.{every}
 
 -- a call's answer, after a test whether it was no
 module _ {answer question : Bool} (e : answer ≡ question) where
-  pub was-no : not answer ≡ true → question ≡ false
-  was-no n = sym e ∙ not-true answer n
+  pub was-no : answer ≡ false → question ≡ false
+  was-no n = sym e ∙ n
 
-  pub was-yes : not answer ≡ false → question ≡ true
-  was-yes n = sym e ∙ not-false answer n
+  pub was-yes : answer ≡ true → question ≡ true
+  was-yes n = sym e ∙ n
 
 module _ (test : ℕ → Bool) (xs : List ℕ) (i : ℕ) (yet : Bool) where
   pub every-turn : i < length xs → (yet && every test (drop i xs)) ≡ (yet && test (get_or xs i 0) && every test (drop (i + 1) xs))

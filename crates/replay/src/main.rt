@@ -1,5 +1,7 @@
 // Replays cases of the oracle (tools/oracle) from standard input and compares every answer to the bit. A case is 12 words of 8 bytes,
 // little-endian: an operation, 5 inputs, 6 answers. A line a module: its name, how many cases, how many differ. Then the first case that differs.
+#![tactic(auto)]
+
 mod delay;
 mod numbers;
 mod quantities;
@@ -13,8 +15,8 @@ use bandwidth::Bitrate;
 use cases::{Case, Counts};
 use control::DelayController;
 use delay::Waiting;
-use libc::STDIN_FILENO;
 use rate_control::RateControl;
+use std::io;
 use trendline::TrendlineEstimator;
 
 // The module of an operation: they have ten numbers each, from 1 on for time, then from 20 on.
@@ -59,18 +61,18 @@ impl Modules {
         }
     }
 
-    fn print(self) {
+    fn print(self, rt: &impl Print) -> io::Result<()> {
         let c = self.counts;
         let all = self.all;
-        c[0].print(b"time");
-        c[1].print(b"average");
-        c[2].print(b"acked_bitrate_estimator");
-        c[3].print(b"arrival_group");
-        c[4].print(b"trendline");
-        c[5].print(b"rate_control");
-        c[6].print(b"control");
-        c[7].print(b"bandwidth");
-        all.print_first();
+        c[0].print(rt, "time")?;
+        c[1].print(rt, "average")?;
+        c[2].print(rt, "acked_bitrate_estimator")?;
+        c[3].print(rt, "arrival_group")?;
+        c[4].print(rt, "trendline")?;
+        c[5].print(rt, "rate_control")?;
+        c[6].print(rt, "control")?;
+        c[7].print(rt, "bandwidth")?;
+        all.print_first(rt)
     }
 }
 
@@ -143,17 +145,18 @@ impl States {
     }
 }
 
-fn main() {
+fn main(rt: HostRuntime) -> io::Result<()> {
+    let mut input = rt.reader();
     let mut states = States::new();
     let mut modules = Modules::new();
     for _ in 0..1_000_000_000u64 {
         let mut bytes = [0u8; 96];
-        if io::read_full(STDIN_FILENO, &mut bytes) < 96 {
+        if cases::read_full(&mut input, &mut bytes)? < 96 {
             break;
         }
         let case = Case::read(&bytes);
         states = states.next(case);
         modules = modules.counted(case, states.words(case));
     }
-    modules.print();
+    modules.print(&rt)
 }

@@ -1,46 +1,43 @@
 // Runs the rows of document 01 that are not theorems, and prints what each gives. Order 3 of document 02 moves none of them.
+#![tactic(auto)]
+
 use acked_bitrate_estimator::AckedBitrateEstimator;
 use arrival_group::ArrivalGroup;
 use bandwidth::{Bitrate, DataSize, OptionBitrate};
 use control::DelayController;
-use libc::STDOUT_FILENO;
 use link_state::Link;
+use std::io;
 use trendline::Delays;
 
 // Two packets of which the second is sent and received so many ns after the first.
-fn group(name: &[u8], spacing: u64) {
+fn group(rt: &impl Print, name: &str, spacing: u64) -> io::Result<()> {
     let first = ArrivalGroup::new(0, 0);
-    io::write_all(STDOUT_FILENO, name);
     if first.add_packet(spacing, spacing).need_new_group {
-        io::write_all(STDOUT_FILENO, b": starts anew\n");
-        return;
+        return println!(rt; "{name}: starts anew");
     }
-    io::write_all(STDOUT_FILENO, b": joins\n");
+    println!(rt; "{name}: joins")
 }
 
 // 1,000 bytes at 0 and at 500 ms, with windows of 500 and 150 ms.
-fn window(name: &[u8]) {
+fn window(rt: &impl Print, name: &str) -> io::Result<()> {
     let empty = AckedBitrateEstimator::new(500_000_000, 150_000_000);
     let once = empty.update(0, DataSize::bytes(1000));
     let estimate = once
         .update(500_000_000, DataSize::bytes(1000))
         .current_estimate();
-    io::write_all(STDOUT_FILENO, name);
     match estimate {
-        OptionBitrate::None => io::write_all(STDOUT_FILENO, b": no sample\n"),
-        OptionBitrate::Some(_) => io::write_all(STDOUT_FILENO, b": a sample\n"),
-    };
+        OptionBitrate::None => println!(rt; "{name}: no sample"),
+        OptionBitrate::Some(_) => println!(rt; "{name}: a sample"),
+    }
 }
 
 // The threshold of 12.5 ms, 100 ms after its last update.
-fn threshold(name: &[u8], modified_trend: f64) {
+fn threshold(rt: &impl Print, name: &str, modified_trend: f64) -> io::Result<()> {
     let delays = Delays::new();
-    io::write_all(STDOUT_FILENO, name);
     if delays.threshold(modified_trend, 100_000_000) == delays.delay_threshold {
-        io::write_all(STDOUT_FILENO, b": stays\n");
-        return;
+        return println!(rt; "{name}: stays");
     }
-    io::write_all(STDOUT_FILENO, b": adapts\n");
+    println!(rt; "{name}: adapts")
 }
 
 fn fresh() -> Link {
@@ -50,7 +47,7 @@ fn fresh() -> Link {
 }
 
 // A report of packets of one byte, all sent and received at 0, to a fresh link.
-fn packets(name: &[u8], sizes: &[u64], instants: &[u64]) {
+fn packets(rt: &impl Print, name: &str, sizes: &[u64], instants: &[u64]) -> io::Result<()> {
     let called = link::report(
         fresh(),
         instants,
@@ -62,21 +59,20 @@ fn packets(name: &[u8], sizes: &[u64], instants: &[u64]) {
         0,
     );
     let answer = called.answer;
-    io::write_all(STDOUT_FILENO, name);
-    io::write_all(STDOUT_FILENO, b": ");
-    io::print_decimal(STDOUT_FILENO, answer.number());
-    io::write_all(STDOUT_FILENO, b"\n");
+    let number = answer.number();
+    println!(rt; "{name}: {number}")
 }
 
-fn main() {
-    group(b"send and remote spacing of 5 ms", 5_000_000);
-    group(b"send and remote spacing of 6 ms", 6_000_000);
-    window(b"sizes at 0 and 500 ms only");
-    threshold(b"modified trend 27.5", 27.5);
+fn main(rt: HostRuntime) -> io::Result<()> {
+    group(&rt, "send and remote spacing of 5 ms", 5_000_000)?;
+    group(&rt, "send and remote spacing of 6 ms", 6_000_000)?;
+    window(&rt, "sizes at 0 and 500 ms only")?;
+    threshold(&rt, "modified trend 27.5", 27.5)?;
     threshold(
-        b"modified trend 27.5, and a unit in the last place more",
+        &rt,
+        "modified trend 27.5, and a unit in the last place more",
         27.500000000000004,
-    );
-    packets(b"1,024 packets", &[1u64; 1024], &[0u64; 1024]);
-    packets(b"1,025 packets", &[1u64; 1025], &[0u64; 1025]);
+    )?;
+    packets(&rt, "1,024 packets", &[1u64; 1024], &[0u64; 1024])?;
+    packets(&rt, "1,025 packets", &[1u64; 1025], &[0u64; 1025])
 }

@@ -11,8 +11,9 @@ use Rattle.std.specs.Float.Ieee.Positive.{den, den_pos, positive, positive-finit
 use Rattle.std.specs.Float.Ieee.Scale.{finite}
 use Rattle.float_order.specs.Order.{over, under, ordered, finite-ordered, cross→le, lt→not-le, not-lt→le}
 use Rattle.float_order.specs.Ops.{zero₊, nonneg-under, nonneg_of, positive-under, positive-over}
-use Rattle.float_order.specs.Dyadic.{Is, is-of-value, dyadic-over, float-high, over-num}
-use Rattle.float_order.specs.Gaps.{gap}
+use Rattle.float_order.specs.Dyadic.{Is}
+use Rattle.float_order.proofs.Dyadic.{is-of-value, dyadic-over, float-high, over-num}
+use Rattle.float_order.proofs.Gaps.{gap}
 use Rattle.float_order.specs.Same.{le_same}
 use Rattle.sqrt.specs.Sqrt.{sqrt, whole_root}
 use Rattle.sqrt.specs.WholeRoot.{IsRoot, whole, odd-below}

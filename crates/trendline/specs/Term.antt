@@ -16,7 +16,8 @@ use Rattle.float_order.specs.Round.{Rounds, neg-round, zero-le-round}
 use Rattle.float_order.specs.Ops.{zero₊, add_rounds, mul-rounds, div-rounds, nonneg-under, positive-over, positive-under}
 use Rattle.float_order.specs.Range.{Within, finite-between}
 use Rattle.float_order.specs.Abs.{within-finite}
-use Rattle.float_order.specs.Dyadic.{Dyadic, Is, dyadic-is, dyadic-float, dyadic-over, dyadic-up, dyadic-down, float-high, over-num, above-round, two^}
+use Rattle.float_order.specs.Dyadic.{Dyadic, Is, two^}
+use Rattle.float_order.proofs.Dyadic.{dyadic-is, dyadic-float, dyadic-over, dyadic-up, dyadic-down, float-high, over-num, above-round}
 
 -- ---- |x| ≤ a / c
 pub record Size (a c : ℕ) (x : Float) : Type 0 where

@@ -1,4 +1,6 @@
 // The packets of a pass file that wait for their report, in five lists: a packet's record joins those that are there.
+#![tactic(auto)]
+
 ghost use Rattle.std.specs.Prelude.{◌≡◌, set};
 ghost use Rattle.pass_records.specs.PassRecords as Records;
 ghost use Rattle.waiting_packets.specs.WaitingPackets as Waiting;

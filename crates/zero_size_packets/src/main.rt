@@ -1,9 +1,11 @@
 // The user's failure, on this link: empty packets in the first half second, then a clean line, one second of congestion, and a clean line again. Packets of
 // size 0 are refused; packets of size 1 are taken. Either way the estimate recovers. The Rust, fed the empty packets, stays at 60,000 bps.
+#![tactic(auto)]
+
 use bandwidth::{Bitrate, OptionBitrate};
-use libc::STDOUT_FILENO;
 use link::{Called, Opened, Opening};
 use link_state::Link;
+use std::io;
 use std::num::wrapping_add_u64;
 
 // How long a packet that was sent at so many ms waits, in ms: from 3 to 4 s each one waits 3 ms longer than the one before.
@@ -121,16 +123,12 @@ fn is_shown(number: u64) -> bool {
 }
 
 // What stands after a report, where it is shown.
-fn show(number: u64, bps: u64, refused: u64) {
+fn show(rt: &impl Print, number: u64, bps: u64, refused: u64) -> io::Result<()> {
     if !is_shown(number) {
-        return;
+        return Ok(());
     }
-    io::print_decimal(STDOUT_FILENO, number / 20 + 1);
-    io::write_all(STDOUT_FILENO, b" s: estimate ");
-    io::print_decimal(STDOUT_FILENO, bps);
-    io::write_all(STDOUT_FILENO, b" bps, reports refused so far: ");
-    io::print_decimal(STDOUT_FILENO, refused);
-    io::write_all(STDOUT_FILENO, b"\n");
+    let seconds = number / 20 + 1;
+    println!(rt; "{seconds} s: estimate {bps} bps, reports refused so far: {refused}")
 }
 
 // The link, and how many reports it refused.
@@ -140,33 +138,33 @@ struct State {
     refused: u64,
 }
 
-fn next(number: u64, first_size: u64, state: State) -> State {
+fn next(rt: &impl Print, number: u64, first_size: u64, state: State) -> io::Result<State> {
     let called = report(packets(number, first_size), taken(number), state.link);
     let answer = called.answer;
     let link = called.link;
     let refused = wrapping_add_u64(state.refused, (answer.number() != 0) as u64);
-    show(number, estimate(link), refused);
-    State { link, refused }
+    show(rt, number, estimate(link), refused)?;
+    Ok(State { link, refused })
 }
 
-fn pass(link: Link, first_size: u64) {
+fn pass(rt: &impl Print, link: Link, first_size: u64) -> io::Result<()> {
     let mut state = State { link, refused: 0 };
     for number in 0..1200u64 {
-        state = next(number, first_size, state);
+        state = next(rt, number, first_size, state)?;
     }
+    Ok(())
 }
 
-fn run(name: &[u8], first_size: u64) {
-    io::write_all(STDOUT_FILENO, name);
+fn run(rt: &impl Print, name: &str, first_size: u64) -> io::Result<()> {
+    println!(rt; "{name}")?;
     let opened = Opening::judge(Bitrate(1_000_000.0), 500_000_000, 150_000_000);
     if let Opened::Accepted(o) = opened {
-        pass(o.link(), first_size);
-        return;
+        return pass(rt, o.link(), first_size);
     }
-    io::write_all(STDOUT_FILENO, b"refused\n");
+    println!(rt; "refused")
 }
 
-fn main() {
-    run(b"size 0 in the first half second\n", 0);
-    run(b"size 1 in the first half second\n", 1);
+fn main(rt: HostRuntime) -> io::Result<()> {
+    run(&rt, "size 0 in the first half second", 0)?;
+    run(&rt, "size 1 in the first half second", 1)
 }

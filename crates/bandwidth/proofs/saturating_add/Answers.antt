@@ -27,7 +27,7 @@ pub returns-then-a-ge0 : goal.returns-then-a-ge0
 returns-then-a-ge0 c =
     let a = to_z-of_z c.ranges.a in
     let b = to_z-of_z c.ranges.b in
-    rw (to_z-of_z (add-result c), a, b) (sym (keeps _ (rw (a, b) at (add-result c))))
+    rw (to_z-of_z (overflow_add-result c), a, b) (sym (keeps _ (rw (a, b) at (overflow_add-result c))))
 
 pub overflow_sub-a-2 : goal.overflow_sub-a-2
 overflow_sub-a-2 c =
@@ -53,4 +53,4 @@ pub returns : goal.returns
 returns c =
     let a = to_z-of_z c.ranges.a in
     let b = to_z-of_z c.ranges.b in
-    rw (to_z-of_z (add-result-2 c), a, b) (sym (keeps _ (rw (a, b) at (add-result-2 c))))
+    rw (to_z-of_z (overflow_add-result-2 c), a, b) (sym (keeps _ (rw (a, b) at (overflow_add-result-2 c))))

@@ -1,6 +1,5 @@
 -- The number takes w digits or more, and below 10 to the power w no more.
 use native.Mathlib.Omega.{arith}
-use Prim.Native.Nat.{◌-◌}
 use Rattle.listing_line.specs.Laws.{width-le}
 use Rattle.listing_line.proofs.Writing.{width-start, width_fits, width-more, width-turn, width-end}
 use Rattle.listing_line.proofs.width.Goals as goal

@@ -1,14 +1,14 @@
 -- `pass_records::judge_chain` meets its contract. The loop's invariant: the first no along the chain from record 1 is that along the chain from record k.
-use Prim.Native.Nat.{ℕ, ◌-◌, ◌≤◌, ◌<◌}
+use Prim.Native.Nat.{ℕ, ◌≤◌, ◌<◌}
 use mathlib.Core.Path.{◌≡◌, refl, sym, ◌∙◌}
 use mathlib.Core.List.{List}
 use native.Mathlib.Omega.{arith}
 use Rattle.pass_records.specs.PassRecords.{record_at, successor, onward, chain_from, judge_one, judge_along}
-use Rattle.pass_records.specs.Laws.{Followed, followed, judge-step}
+use Rattle.pass_records.specs.Laws.{followed, judge-step}
 use Rattle.pass_records.specs.declared.Following.{Following}
 use Rattle.pass_records.specs.declared.Judged.{Judged}
 use Rattle.pass_records.proofs.judge_chain.Goals as goal
-use Rattle.pass_records.proofs.judge_chain.Goals.{After-successor, In-Next-2}
+use Rattle.pass_records.proofs.judge_chain.Goals.{After-successor}
 
 told : (c : After-successor) → c.successor.result ≡ successor (record_at c.args.file.now c.loop-n.k) c.args.last c.loop-n.k
 told c = rw (← c.record_at.ensures) c.successor.ensures
@@ -22,19 +22,19 @@ turn :
     judge_one t (judge_along file last (onward t (chain_from file last))) ≡ whole
 turn file last k whole t i e f = sym (judge-step file last k t i.1.0 (sym e ∙ f)) ∙ i.1.1
 
--- the record that follows, where one does
-after : (c : In-Next-2)
-    → Followed (record_at c.args.file.now c.loop-n.k) c.args.last c.loop-n.k c.in-Next.n
-after c = followed _ _ _ _ (sym (told c.After-successor) ∙ c.in-Next.is)
-
 pub loop-n-init : goal.loop-n-init
 loop-n-init c = (omega arith, (omega arith, refl))
 
 pub loop-n-smaller : goal.loop-n-smaller
-loop-n-smaller c = omega (arith, (after (goal.at.loop-n-smaller c).In-Next-2).above, (after (goal.at.loop-n-smaller c).In-Next-2).within)
+loop-n-smaller c =
+    let after = followed _ _ _ _ (sym (told (goal.at.loop-n-smaller c).After-successor) ∙ c.in-Next.is) in
+    omega (arith, after.above, after.within)
 
 pub loop-n-preserved : goal.loop-n-preserved
-loop-n-preserved c = (omega (arith, (after (goal.at.loop-n-preserved c).In-Next-2).above), ((after (goal.at.loop-n-preserved c).In-Next-2).within, turn _ _ _ _ _ c.loop-n.invariant (told (goal.at.loop-n-preserved c).After-successor) c.in-Next.is))
+loop-n-preserved c =
+    let step = told (goal.at.loop-n-preserved c).After-successor in
+    let after = followed _ _ _ _ (sym step ∙ c.in-Next.is) in
+    (omega (arith, after.above), (after.within, turn _ _ _ _ _ c.loop-n.invariant step c.in-Next.is))
 
 pub returns-in-End : goal.returns-in-End
 unfolding judge_along

@@ -7,8 +7,6 @@ use borrow.Author.Tests.{lt-ltb, le-leb, lt-leb}
 use Rattle.pass_records.specs.PassRecords.{record_at, record_bytes}
 use Rattle.pass_records.proofs.record_at.Goals as goal
 
-pub record-at-spec : {M : Type 1} → statement M
-
 pub returns-then-k-eq0 : goal.returns-then-k-eq0
 unfolding record_at
 returns-then-k-eq0 c = rw c.if-k-eq0.true

@@ -11,7 +11,7 @@ use Rattle.seconds.proofs.from_secs_f64.Goals.{Then-x-2}
 -- past the tests
 between : (c : Then-x-2)
     → Fields c.args.x (to_bits binary64 c.args.x % 2 ^ 52 + 2 ^ 52) (1075 - to_bits binary64 c.args.x / 2 ^ 52)
-between c = fields c.args.x c.if-x-2.true c.if-x.false c.well-formed.0.1
+between c = fields c.args.x c.if-x-2.true c.if-x.false c.well_formed.0.1
 
 pub returns-then-x : goal.returns-then-x
 returns-then-x c = too_many c.args.x c.if-x.true

@@ -28,12 +28,12 @@ float_to_bits-b c = no_nan _ c.if-v.false
 pub returns-then-b-eq9218868437227405312 : goal.returns-then-b-eq9218868437227405312
 returns-then-b-eq9218868437227405312 c =
     let start = c in
-    ap (eq start.args.d) (at-infinity start.args.v start.well-formed.1.0.1 c.if-b-eq9218868437227405312.true)
+    ap (eq start.args.d) (at-infinity start.args.v start.well_formed.1.0.1 c.if-b-eq9218868437227405312.true)
 
 pub root_at-requires : goal.root_at-requires
 root_at-requires c =
     let start = c in
-    in-range start.args.v start.well-formed.1.0.1 c.if-v.false c.if-v-2.false c.if-v-3.false c.if-b-eq9218868437227405312.false
+    in-range start.args.v start.well_formed.1.0.1 c.if-v.false c.if-v-2.false c.if-v-3.false c.if-b-eq9218868437227405312.false
 
 pub float_to_bits-d : goal.float_to_bits-d
 float_to_bits-d c = no_nan _ c.if-d.false
@@ -45,5 +45,5 @@ returns c =
     let s = c.root_at.ensures.0 in
     let d = digits r.big r.base s in
     c.has_bits.ensures
-    ∙ by_bits (root_bits r.big r.base) (omega (arith, d.0)) (omega (arith, d.1)) start.args.d (is_true _ start.well-formed.0.1)
-    ∙ ap (eq start.args.d) (sym c.root_at.ensures.1 ∙ ap sqrt (of_bits-to_bits binary64 start.args.v (is_true _ start.well-formed.1.0.1)))
+    ∙ by_bits (root_bits r.big r.base) (omega (arith, d.0)) (omega (arith, d.1)) start.args.d (is_true _ start.well_formed.0.1)
+    ∙ ap (eq start.args.d) (sym c.root_at.ensures.1 ∙ ap sqrt (of_bits-to_bits binary64 start.args.v (is_true _ start.well_formed.1.0.1)))

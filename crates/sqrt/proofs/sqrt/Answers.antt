@@ -8,6 +8,7 @@ use Rattle.sqrt.specs.Units.{digits}
 use Rattle.float_order.specs.Bits.{no-nan-bits}
 use Rattle.float_order.specs.Order.{is_true}
 use Rattle.sqrt.proofs.sqrt.Goals as goal
+use Rattle.sqrt.proofs.sqrt.Goals.{Else-b-eq9218868437227405312}
 
 pub returns-then-x : goal.returns-then-x
 returns-then-x c = rw (at-nan c.args.x c.if-x.true) (sym root-of-nan)
@@ -22,15 +23,15 @@ pub float_to_bits-b : goal.float_to_bits-b
 float_to_bits-b c = no_nan _ c.if-x.false
 
 pub returns-then-b-eq9218868437227405312 : goal.returns-then-b-eq9218868437227405312
-returns-then-b-eq9218868437227405312 c = at-infinity c.args.x c.well-formed.0.1 c.if-b-eq9218868437227405312.true
+returns-then-b-eq9218868437227405312 c = at-infinity c.args.x c.well_formed.0.1 c.if-b-eq9218868437227405312.true
 
 pub root_at-requires : goal.root_at-requires
 root_at-requires c =
     let start = c in
-    in-range start.args.x start.well-formed.0.1 c.if-x.false c.if-x-2.false c.if-x-3.false c.if-b-eq9218868437227405312.false
+    in-range start.args.x start.well_formed.0.1 c.if-x.false c.if-x-2.false c.if-x-3.false c.if-b-eq9218868437227405312.false
 
 pub guess-requires : goal.guess-requires
-guess-requires c = (root-at-requires c κs).1
+guess-requires c = (root_at-requires (goal.at.guess-requires c).Else-b-eq9218868437227405312).1
 
 pub float_from_bits-result : goal.float_from_bits-result
 float_from_bits-result c =
@@ -40,4 +41,4 @@ float_from_bits-result c =
 pub returns : goal.returns
 returns c =
     let start = c in
-    rw c.root_bits.ensures (sym c.root_at.ensures.1 ∙ ap sqrt (of_bits-to_bits binary64 start.args.x (is_true _ start.well-formed.0.1)))
+    rw c.root_bits.ensures (sym c.root_at.ensures.1 ∙ ap sqrt (of_bits-to_bits binary64 start.args.x (is_true _ start.well_formed.0.1)))

@@ -10,7 +10,7 @@ use Rattle.std.specs.Float.Ieee.Positive.{den}
 use Rattle.float_order.specs.Arith.{either, pow-split}
 use Rattle.float_order.specs.Order.{over, under, cross→le, lt→not-le}
 use Rattle.float_order.specs.Ops.{zero₊, nonneg-under}
-use Rattle.float_order.specs.Dyadic.{dyadic-over}
+use Rattle.float_order.proofs.Dyadic.{dyadic-over}
 
 -- q * 2 ^ i below (m + 1) * 2 ^ k is m * 2 ^ k at most
 grid-gap : (q i m k : ℕ) → q < 2 ^ 53 → 2 ^ 52 ≤ m → q * 2 ^ i < suc m * 2 ^ k → q * 2 ^ i ≤ m * 2 ^ k

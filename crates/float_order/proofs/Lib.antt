@@ -1,0 +1,4 @@
+pub mod Dyadic
+pub mod Relative
+pub mod Equal
+pub mod Gaps
