@@ -1,1 +1,1 @@
-// The starred rows of document 01, proved of the definitions: specs/Rows.antt. No code.
+// The starred rows of document 01, proved of the definitions: specs/Rows.antt, whose theorem is proofs/Rows.antt. No code.
