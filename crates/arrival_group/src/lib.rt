@@ -1,4 +1,6 @@
 // src/bwe/delay/arrival_group.rs: packets sent together, and the delays between such groups. Group size and sequence numbers reach no answer.
+#![tactic(auto)]
+
 ghost use Rattle.std.specs.Prelude.{◌≡◌, max};
 ghost use Rattle.arrival_group.specs.ArrivalGroup as Group;
 

@@ -1,4 +1,4 @@
-// What programs in C or Rust call (rt staticlib c_api). A slice is a pointer and a length; a link is 100 words that the caller lends (crates/link_words). A call returns 0, or the opposite of the number of the question that
+// What programs in C or Rust call, by the exports of `c_api_c`. A slice is a pointer and a length; a link is 100 words that the caller lends (crates/link_words). A call returns 0, or the opposite of the number of the question that
 // turned it down; then every lent place is as it was.
 ghost use Rattle.std.specs.Prelude.{◌&&◌, ◌≡◌, pos, neg_ℤ};
 ghost use Rattle.questions.specs.Questions.{number, report-of};
@@ -77,8 +77,7 @@ fn store(
 
 // ---- a link
 // Opens a link at a rate in bps, with windows in ns.
-#[unsafe(no_mangle)]
-pub extern "C" fn hornetpewter_open(
+pub fn hornetpewter_open(
     link: &mut [u64; 100],
     start_bitrate: f64,
     initial_window: u64,
@@ -161,8 +160,7 @@ fn report_in_order(
 }
 
 // A report: its packets as five lists, a probe's result where has_probe is not 0, and the moment.
-#[unsafe(no_mangle)]
-pub extern "C" fn hornetpewter_report(
+pub fn hornetpewter_report(
     link: &mut [u64; 100],
     sequences: &[u64],
     sizes: &[u64],
@@ -209,8 +207,7 @@ pub extern "C" fn hornetpewter_report(
     store(link, bitrate, hypothesis, next_timeout, called)
 }
 
-#[unsafe(no_mangle)]
-pub extern "C" fn hornetpewter_timeout(
+pub fn hornetpewter_timeout(
     link: &mut [u64; 100],
     moment: u64,
     bitrate: &mut f64,
@@ -240,8 +237,7 @@ pub extern "C" fn hornetpewter_timeout(
 }
 
 // What a link holds, without a call: estimate in bps, hypothesis, next timeout in ns and delay threshold in ms.
-#[unsafe(no_mangle)]
-pub extern "C" fn hornetpewter_read(
+pub fn hornetpewter_read(
     link: &[u64; 100],
     bitrate: &mut f64,
     hypothesis: &mut u32,

@@ -1,5 +1,5 @@
 -- Laws of lent words and places.
-use Rattle.std.specs.Prelude.{◌≡◌, refl, ℕ, ◌%◌, ◌^◌, ◌≤◌, ◌<◌, List, [], ◌∷◌, ℤ, length}
+use Rattle.std.specs.Prelude.{◌≡◌, refl, ℕ, ◌^◌, ◌≤◌, ◌<◌, List, [], ◌∷◌, ℤ, length}
 use Rattle.std.proofs.Math.Path.{sym, ap}
 use Rattle.std.proofs.Common.{◌∙◌, mod-eq_of_lt, arith}
 use Rattle.twcc.specs.Feedback.{judge}
@@ -12,7 +12,7 @@ use Rattle.feedback_reader.specs.declared.CursorStart.{CursorStart}
 use Rattle.feedback_lists.specs.Lists.{next_packets, handed, room, statuses_over, ticks_over}
 use Rattle.feedback_lists.specs.Laws.{first-number, packets-most}
 use Rattle.feedback_lists.specs.declared.Handed.{Handed}
-use Rattle.c_feedback.specs.CFeedback.{to_words, place_of, cursor_of, packets_to, if_some_lem, words_after, sequence_after}
+use Rattle.c_feedback.specs.CFeedback.{to_words, place_of, cursor_of, packets_to, if_some, words_after, sequence_after}
 
 -- ---- a start
 module _ (message : List ℕ) {s : CursorStart} {j : Judged} (is : s ≡ start message) (told : s.judged ≡ j) where
@@ -28,7 +28,7 @@ no-packets : (l : List Packet) → length l ≡ 0 → l ≡ []
 no-packets [] e = refl
 no-packets (p ∷ l) e = absurd (omega arith)
 
-if_some_lem : {A : Type 0} (l : List Packet) (new old : A) → (length l ≡ 0 → ⊥) → new ≡ if_some_lem l new old
+if_some_lem : {A : Type 0} (l : List Packet) (new old : A) → (length l ≡ 0 → ⊥) → new ≡ if_some l new old
 if_some_lem [] new old some = absurd (some refl)
 if_some_lem (p ∷ l) new old some = refl
 

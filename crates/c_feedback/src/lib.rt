@@ -2,6 +2,8 @@
 // that it was started on. Any words are met with an answer: a word counts modulo the size of its number's type.
 //
 //   0 next_chunk   1 chunk   2 symbols_left   3 next_delta   4 packets_left   5 next_sequence   6 ticks
+#![tactic(auto)]
+
 ghost use Rattle.std.specs.Prelude.{◌≡◌, ◌%◌, ◌^◌, pos, length};
 ghost use Rattle.twcc.specs.Feedback.{judge};
 ghost use Rattle.feedback_reader.specs.Reader.{start};
@@ -51,8 +53,7 @@ fn store(reader: &mut [u64; 7], next_chunk: usize, cursor: Cursor)
 }
 
 // Judges a message and starts a reader of it: 0, and the header's four numbers; or the opposite of the number of the question that the message fails, and every lent place is as it was.
-#[unsafe(no_mangle)]
-pub extern "C" fn hornetpewter_feedback_start(
+pub fn hornetpewter_feedback_start(
     message: &[u8],
     reader: &mut [u64; 7],
     base_seq: &mut u16,
@@ -88,8 +89,7 @@ pub extern "C" fn hornetpewter_feedback_start(
 
 // Hands out the next packets, as many as both lists have room for, and tells how many: a packet's status, 1 received and 0 not, its ticks, 0 where it was not received, and the sequence
 // number of the first. The lists' other places stay as they were; where none is handed out every lent place does.
-#[unsafe(no_mangle)]
-pub extern "C" fn hornetpewter_feedback_next(
+pub fn hornetpewter_feedback_next(
     message: &[u8],
     reader: &mut [u64; 7],
     sequence: &mut u16,

@@ -1,4 +1,4 @@
-// What programs in C or Rust call (rt staticlib c_pass_file). A slice is a pointer and a length.
+// What programs in C or Rust call, by the exports of `c_pass_file_c`. A slice is a pointer and a length.
 ghost use Rattle.std.specs.Prelude.{◌≡◌, length};
 ghost use Rattle.pass_records.specs.PassRecords.{most_records};
 ghost use Rattle.pass_file.specs.PassFile as PassFile;
@@ -7,8 +7,7 @@ ghost use Rattle.c_pass_file.specs.CPassFile as CPassFile;
 use pass_file::Listed;
 
 // Lists a pass file: the listing's length, or the opposite of the number of the question that the file fails.
-#[unsafe(no_mangle)]
-pub extern "C" fn hornetpewter_list(file: &[u8], out: &mut [u8]) -> i64
+pub fn hornetpewter_list(file: &[u8], out: &mut [u8]) -> i64
     ensures value { result ≡ CPassFile.code (PassFile.list most_records file.now (length out.old)) }
     ensures out_after { out.new ≡ PassFile.output most_records file.now out.old }
 {
@@ -22,8 +21,7 @@ pub extern "C" fn hornetpewter_list(file: &[u8], out: &mut [u8]) -> i64
 }
 
 // How many bytes of output a pass file of so many bytes wants, or the opposite of 10.
-#[unsafe(no_mangle)]
-pub extern "C" fn hornetpewter_room(file_length: usize) -> i64
+pub fn hornetpewter_room(file_length: usize) -> i64
     ensures { result ≡ CPassFile.room file_length }
 {
     let room = pass_records::room(file_length, pass_records::MOST_RECORDS);

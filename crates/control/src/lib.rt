@@ -1,5 +1,7 @@
 // src/bwe/delay/control.rs: the delay controller. Smoothed round trips are present after any packet, so the Rust's history of them is never
 // consulted and is left out, and so is its copy of the last estimate, which is always the rate control's.
+#![tactic(auto)]
+
 ghost use Rattle.std.specs.Prelude.{◌≡◌, min};
 ghost use Rattle.control.specs.Control as Control;
 

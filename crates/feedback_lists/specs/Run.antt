@@ -1,5 +1,5 @@
 -- Packets of a run of small deltas handed out together, and that steps one by one give the same.
-use Rattle.std.specs.Prelude.{◌≡◌, ℕ, zero, suc, ◌+◌, ◌-◌, ◌%◌, ◌^◌, ◌<◌, ◌≤◌, false, List, [], ◌∷◌, length, drop, replicate, ℤ, slice_index, slice_set, refl}
+use Rattle.std.specs.Prelude.{◌≡◌, ℕ, zero, suc, ◌+◌, ◌-◌, ◌%◌, ◌^◌, ◌<◌, ◌≤◌, List, [], ◌∷◌, length, drop, replicate, ℤ, slice_index, slice_set, refl}
 use Rattle.std.proofs.Math.Path.{sym}
 use Rattle.std.proofs.Common.{◌∙◌, add-zero, mod-eq_of_lt}
 use native.Mathlib.Omega.{arith}
@@ -11,10 +11,9 @@ use Rattle.status_chunk.specs.Chunk.{small_delta, symbol_count, symbol_left}
 use Rattle.status_chunk.specs.Laws.{run-symbol}
 use Rattle.twcc.specs.Feedback.{signed, packet}
 use Rattle.twcc.specs.declared.Packet.TheVariants.{Received}
-use Rattle.feedback_reader.specs.Reader.{filled, delta_bits, taken, taken_if, step_in, step}
+use Rattle.feedback_reader.specs.Reader.{delta_bits, taken, taken_if, step_in, step}
 use Rattle.feedback_reader.specs.Filling.{filled-now}
 use Rattle.feedback_reader.specs.declared.Cursor.{Cursor}
-use Rattle.feedback_reader.specs.declared.CursorStep.{CursorStep}
 use Rattle.feedback_reader.specs.declared.OptionPacket.TheVariants.{Some}
 
 -- ---- n packets

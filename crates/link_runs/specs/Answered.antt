@@ -4,7 +4,7 @@ use Rattle.std.proofs.Common.{arith, leb-true}
 use Rattle.control.specs.Laws.{Instants}
 use Rattle.receive_order.specs.Lists.{All, all_map}
 use Rattle.receive_order.specs.Laws.{ordered-all}
-use Rattle.questions.specs.Questions.{Question, Report, all_at_least, all_at_most, first_no, All-in_order, of_report, of_timeout, ordered}
+use Rattle.questions.specs.Questions.{Question, Report, all_at_least, all_at_most, first_no, in_order, of_report, of_timeout, ordered}
 use Rattle.questions.specs.Laws.{Numbered, every-all}
 use Rattle.link_state.specs.declared.Link.{Link}
 use Rattle.link.specs.Link as L
@@ -52,7 +52,7 @@ pub at_least : (n : ℕ) (xs : List ℕ) → all_at_least n xs ≡ true → All 
 at_least n xs e = all_map (λ x. leb-true n x) xs (every-all (λ x. leb n x) xs e)
 
 -- what holds of a list holds of it in the order of receipt
-pub All-in_order : (r : Report) (P : ℕ → Type 0) (xs : List ℕ) → length xs ≡ length r.sequences → All P xs → All P (All-in_order r xs)
+pub All-in_order : (r : Report) (P : ℕ → Type 0) (xs : List ℕ) → length xs ≡ length r.sequences → All P xs → All P (in_order r xs)
 All-in_order r P xs e h = ordered-all r.remotes r.sends r.sequences xs P (omega arith) h
 
 pub instants : (n : ℕ) (xs ys : List ℕ) → All (λ t. t ≤ n) xs → All (λ t. t ≤ n) ys → Instants n xs ys

@@ -39,7 +39,7 @@ use Rattle.control.specs.Control.{with_rate}
 use Rattle.control.specs.declared.DelayController.{DelayController}
 use Rattle.link_state.specs.Laws.{Sized}
 use Rattle.link_state.specs.declared.Link.{Link}
-use Rattle.link_words.specs.LinkWords.{acked, acked_words, average, average_bits, average_tag, bitrate, bitrate_bits, bitrate_tag, control, control_words, delays, delays_words, duration, duration_ns, duration_tag, floats, formed, group, group_tag, group_times, groups, groups_words, history, history_words, hypothesis, hypothesis_tag, instant, instant_ns, instant_tag, moving_average, from_listed, overuse, overuse_tag, overuse_values, overuse_words, rate_control, rate_control_words, round_trip_words, state, state_tag, time_delta, time_ns, time_tag, timeout_words, to_words, trendline, trendline_words}
+use Rattle.link_words.specs.LinkWords.{acked, acked_words, average, average_bits, average_tag, bitrate, bitrate_bits, bitrate_tag, control, control_words, delays, delays_words, duration, duration_ns, duration_tag, floats, formed, group, group_tag, group_times, groups, groups_words, history, history_words, hypothesis, hypothesis_tag, instant, instant_ns, instant_tag, moving_average, of_words, overuse, overuse_tag, overuse_values, overuse_words, rate_control, rate_control_words, round_trip_words, state, state_tag, time_delta, time_ns, time_tag, timeout_words, to_words, trendline, trendline_words}
 
 -- ---- values of the types: a float is one of binary64, a size an i64, and arrays hold 20. Every link of the code is so.
 abbrev pub Held : Float → Type 0
@@ -315,8 +315,8 @@ module _ (l : Link) (f g : ℕ → Float) where
   unfolding listed to_words acked_words control_words groups_words trendline_words history_words delays_words overuse_words rate_control_words round_trip_words
   next-back = refl
 
-  listed-loads : LinkHeld l → ((i : ℕ) → Held (f i)) → ((i : ℕ) → Held (g i)) → from_listed words ≡ with l (listed 20 f) (listed 20 g)
-  unfolding from_listed control
+  listed-loads : LinkHeld l → ((i : ℕ) → Held (f i)) → ((i : ℕ) → Held (g i)) → of_words words ≡ with l (listed 20 f) (listed 20 g)
+  unfolding of_words control
   listed-loads h hf hg =
       simp (
         acked-back h.acked,
@@ -382,9 +382,9 @@ module _ (l : Link) where
   words-formed s = of-listed (λ (k : Link). formed (to_words k) ≡ true) s (listed-formed l (λ i. get_or times i zero_float) (λ i. get_or shifts i zero_float))
 
   -- a stored link loads as it was
-  pub words-load : LinkHeld l → from_listed (to_words l) ≡ l
+  pub words-load : LinkHeld l → of_words (to_words l) ≡ l
   words-load h =
-      of-listed (λ (k : Link). from_listed (to_words k) ≡ k) h.trendline.sized
+      of-listed (λ (k : Link). of_words (to_words k) ≡ k) h.trendline.sized
       (listed-loads l (λ i. get_or times i zero_float) (λ i. get_or shifts i zero_float) h (held_at times h.trendline.times) (held_at shifts h.trendline.delays))
 
   -- the words of a link after a timeout are those of the link with its rate control and next timeout
@@ -417,8 +417,8 @@ module _ (c : DelayController) (f : ℕ → ℕ) where
   unfolding rate_control timeout_words rate_control_words listed
   timed-rate_control = refl
 
-  timed-loads : from_listed timed ≡ record { acked = acked (listed 100 f); control = with_rate (control (listed 100 f)) (reloaded c.rate_control) c.next_timeout }
-  unfolding from_listed control with_rate timeout_words rate_control_words listed
+  timed-loads : of_words timed ≡ record { acked = acked (listed 100 f); control = with_rate (control (listed 100 f)) (reloaded c.rate_control) c.next_timeout }
+  unfolding of_words control with_rate timeout_words rate_control_words listed
   timed-loads = simp (timed-acked, timed-groups, timed-trendline, timed-rate_control)
 
   timed-formed : formed (listed 100 f) ≡ true → formed timed ≡ true
@@ -458,14 +458,14 @@ module _ (c : DelayController) (w : List ℕ) (size : length w ≡ 100) where
   from_listed : (P : List ℕ → Type 0) → P (listed 100 (λ i. get_or w i 0)) → P w
   from_listed P p = subst P (listed-all 0 w 100 size) p
 
-  reloads : from_listed (timeout_words c w) ≡ record { acked = (from_listed w).acked; control = with_rate (from_listed w).control (reloaded c.rate_control) c.next_timeout }
-  unfolding from_listed
+  reloads : of_words (timeout_words c w) ≡ record { acked = (of_words w).acked; control = with_rate (of_words w).control (reloaded c.rate_control) c.next_timeout }
+  unfolding of_words
   reloads =
-      from_listed (λ (v : List ℕ). from_listed (timeout_words c v) ≡ record { acked = acked v; control = with_rate (control v) (reloaded c.rate_control) c.next_timeout })
+      from_listed (λ (v : List ℕ). of_words (timeout_words c v) ≡ record { acked = acked v; control = with_rate (control v) (reloaded c.rate_control) c.next_timeout })
       (timed-loads c (λ i. get_or w i 0))
 
   -- they load as the link before, with that rate control and next timeout
-  pub timeout-loads : RateControlHeld c.rate_control → from_listed (timeout_words c w) ≡ with_timeout c (from_listed w)
+  pub timeout-loads : RateControlHeld c.rate_control → of_words (timeout_words c w) ≡ with_timeout c (of_words w)
   timeout-loads h = rw (reloads, reloaded-same c.rate_control h) refl
 
   -- they have the format, if they had it
@@ -473,7 +473,7 @@ module _ (c : DelayController) (w : List ℕ) (size : length w ≡ 100) where
   timeout-formed = from_listed (λ (v : List ℕ). formed v ≡ true → formed (timeout_words c v) ≡ true) (timed-formed c (λ i. get_or w i 0))
 
 -- and if they loaded as others did, they still do
-pub timeout-alike : (c : DelayController) (v w : List ℕ) → length v ≡ 100 → length w ≡ 100 → from_listed v ≡ from_listed w → from_listed (timeout_words c v) ≡ from_listed (timeout_words c w)
+pub timeout-alike : (c : DelayController) (v w : List ℕ) → length v ≡ 100 → length w ≡ 100 → of_words v ≡ of_words w → of_words (timeout_words c v) ≡ of_words (timeout_words c w)
 timeout-alike c v w m n e = rw (reloads c v m, reloads c w n, e) refl
 
 -- ---- what is loaded is of the types, so it is stored and loaded again without change
@@ -523,8 +523,8 @@ module _ (w : List ℕ) (size : get_or w 6 0 < 2 ^ 64) where
         averaged = average-held (get_or w 83 0) (get_or w 84 0) (get_or w 85 0) (get_or w 86 0) (get_or w 87 0);
       }
 
-  pub loaded-held : LinkHeld (from_listed w)
-  unfolding from_listed control
+  pub loaded-held : LinkHeld (of_words w)
+  unfolding of_words control
   loaded-held =
       record {
         acked = acked-held;
@@ -533,5 +533,5 @@ module _ (w : List ℕ) (size : get_or w 6 0 < 2 ^ 64) where
         smoothed-rtt = average-held (get_or w 92 0) (get_or w 93 0) (get_or w 94 0) (get_or w 95 0) (get_or w 96 0);
       }
 
-  pub loaded-again : from_listed (to_words (from_listed w)) ≡ from_listed w
-  loaded-again = words-load (from_listed w) loaded-held
+  pub loaded-again : of_words (to_words (of_words w)) ≡ of_words w
+  loaded-again = words-load (of_words w) loaded-held

@@ -1,4 +1,6 @@
 // src/bwe/delay/rate_control.rs: the estimate rises, holds or falls by the signal and the observed rate.
+#![tactic(auto)]
+
 ghost use Rattle.std.specs.Prelude.{◌≡◌};
 ghost use Rattle.rate_control.specs.RateControl as Rate;
 

@@ -186,7 +186,7 @@ overuse-step t v now =
     cases (λ (w : TrendlineEstimator). OveruseStep t.overuse v.send_delta w.overuse) (eqb u.history.len 20)
     (λ e. detect-step u (linear_fit u.history.times u.history.delays u.delays.previous_trend) v.send_delta now) (λ e. stays)
 
-step-sound : {old new' : OptionOveruse} {sent : TimeDelta} → OveruseStep old sent new' → SoundOveruse old → SoundOveruse new'
+step-sound : {old : OptionOveruse} {sent : TimeDelta} {new' : OptionOveruse} → OveruseStep old sent new' → SoundOveruse old → SoundOveruse new'
 step-sound stays h = h
 step-sound cleared h = tt
 step-sound (begins e) h = omega arith

@@ -9,9 +9,9 @@ pub loop-i-preserved : goal.loop-i-preserved
 loop-i-preserved c =
     let l = c in
     let a = l.args in
-    fold-turn add_rtt a.local-send-times.now a.local-recv-times.now l.loop-i.i l.loop-i.invariant (simp (c.longest-max_rtt.ensures, c.saturating_duration_since-rtt.ensures)) (omega arith)
+    fold-turn add_rtt a.local_send_times.now a.local_recv_times.now l.loop-i.i l.loop-i.invariant (simp (c.longest-max_rtt.ensures, c.saturating_duration_since-rtt.ensures)) (omega arith)
 
 pub returns : goal.returns
 returns c =
     let a = c.args in
-    fold_end add_rtt a.local-send-times.now a.local-recv-times.now c.loop-i.i c.loop-i.invariant (omega arith)
+    fold_end add_rtt a.local_send_times.now a.local_recv_times.now c.loop-i.i c.loop-i.invariant (omega arith)

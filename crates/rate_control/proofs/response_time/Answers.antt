@@ -1,10 +1,9 @@
 -- `rate_control::response_time` meets its contract: of the sum, the whole seconds and the rest are those that the code adds up.
 use mathlib.Core.Path.{◌≡◌, refl}
 use native.Mathlib.Omega.{arith}
-use Prim.Native.Nat.{ℕ, ◌+◌, ◌/◌, ◌%◌, ◌^◌}
-use lib.Dec.{le→leb}
+use Prim.Native.Nat.{ℕ, ◌+◌, ◌/◌, ◌%◌}
 use lib.IntN.{pos}
-use lib.Ieee.{binary64, add, div, of_int, of_bits, in_float}
+use lib.Ieee.{binary64, add, div, of_int, of_bits}
 use Rattle.seconds.specs.Seconds.{as_secs_f64}
 use Rattle.rate_control.specs.RateControl.{response_time}
 use Rattle.rate_control.proofs.response_time.Goals as goal
@@ -23,16 +22,6 @@ parts n = rw (whole n, rest n)
 billion : of_int binary64 (pos 1000000000) ≡ of_bits binary64 0x41cd_cd65_0000_0000
 unfolding of_int of_bits
 billion = refl
-
-pub int_to_float-result : goal.int_to_float-result
-unfolding in_float
-int_to_float-result c =
-    let n = c.args.rtt in
-    le→leb (n / 1000000000 + (n % 1000000000 + 100000000) / 1000000000) (2 ^ 53) (omega arith)
-
-pub int_to_float-result-2 : goal.int_to_float-result-2
-unfolding in_float
-int_to_float-result-2 c = le→leb ((c.args.rtt % 1000000000 + 100000000) % 1000000000) (2 ^ 53) (omega arith)
 
 pub returns : goal.returns
 returns c = simp (parts, billion)

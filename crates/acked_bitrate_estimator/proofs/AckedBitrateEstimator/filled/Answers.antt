@@ -2,10 +2,6 @@
 use Rattle.acked_bitrate_estimator.specs.AckedBitrateEstimator.{filled}
 use Rattle.acked_bitrate_estimator.proofs.AckedBitrateEstimator.filled.Goals as goal
 
-  statement,
-}
-use Rattle.acked_bitrate_estimator.proofs.AckedBitrateEstimator.filled.Tie as tie
-
 pub returns : goal.returns
 unfolding filled
 returns c = cc

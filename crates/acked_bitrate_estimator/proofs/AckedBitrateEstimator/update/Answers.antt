@@ -3,10 +3,6 @@ use Rattle.acked_bitrate_estimator.specs.AckedBitrateEstimator.{update}
 use Rattle.std.proofs.Common.{le-ltb, lt-ltb}
 use Rattle.acked_bitrate_estimator.proofs.AckedBitrateEstimator.update.Goals as goal
 
-  statement,
-}
-use Rattle.acked_bitrate_estimator.proofs.AckedBitrateEstimator.update.Tie as tie
-
 pub returns-then-receive_time-last : goal.returns-then-receive_time-last
 unfolding update
 returns-then-receive_time-last c = simp (c.with_window.ensures, lt-ltb _ _ c.if-receive_time-last.true, c.in-Some.is)

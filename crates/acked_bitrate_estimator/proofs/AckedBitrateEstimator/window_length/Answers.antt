@@ -2,10 +2,6 @@
 use Rattle.acked_bitrate_estimator.specs.AckedBitrateEstimator.{window_length}
 use Rattle.acked_bitrate_estimator.proofs.AckedBitrateEstimator.window_length.Goals as goal
 
-  statement,
-}
-use Rattle.acked_bitrate_estimator.proofs.AckedBitrateEstimator.window_length.Tie as tie
-
 pub returns-in-None : goal.returns-in-None
 unfolding window_length
 returns-in-None c = simp c.in-None.is

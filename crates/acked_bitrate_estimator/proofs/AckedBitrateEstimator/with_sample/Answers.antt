@@ -2,10 +2,6 @@
 use Rattle.acked_bitrate_estimator.specs.AckedBitrateEstimator.{with_sample}
 use Rattle.acked_bitrate_estimator.proofs.AckedBitrateEstimator.with_sample.Goals as goal
 
-  statement,
-}
-use Rattle.acked_bitrate_estimator.proofs.AckedBitrateEstimator.with_sample.Tie as tie
-
 pub returns-in_default : goal.returns-in_default
 unfolding with_sample
 returns-in_default c = simp c.in_default.is

@@ -1,22 +1,19 @@
 -- What is left, added too, gives the whole.
-use Prim.Native.Nat.{◌-◌}
-use mathlib.Core.Path.{◌≡◌}
-use mathlib.Core.Logic.{⊎_elim}
-use native.Mathlib.Omega.{arith}
+use Rattle.std.proofs.Common.{◌≡◌, ◌-◌, arith}
 use Rattle.control.specs.Control.{add_packet, observe}
 use Rattle.control.proofs.Laws.{fold-turn, fold_end}
 use Rattle.control.proofs.DelayDetector.add_packets.Goals as goal
+use Rattle.control.proofs.DelayDetector.add_packets.Goals.{in-Some, in_default}
 
 pub loop-i-preserved : goal.loop-i-preserved
 loop-i-preserved c =
-    let done = c in
-    let l = done in
-    let a = l.args in
-    let t : c.in-Some.trendline ≡ observe done.accumulate_packet-done.result.delta l.loop-i.trendline =
-    ⊎_elim (λ w. simp (w.1.given.1, w.4, w.3.ensures)) (λ w. simp (w.1.given.1, w.2)) c.in-Some.branch in
-    fold-turn add_packet a.local-send-times.now a.remote-recv-times.now l.loop-i.i l.loop-i.invariant (simp (t, c.copied-accumulator.ensures, done.accumulate_packet-done.ensures)) (omega arith)
+    let l = c.loop-i in
+    let a = c.args in
+    let done = c.accumulate_packet-done in
+    let t : c.match-delta.trendline ≡ observe done.result.delta l.trendline = elim c.match-delta.branch [ in-Some w ↦ simp (w.trendline-is, w.in-Some.is, w.add_delay_observation-trendline.ensures) | in_default w ↦ simp (w.trendline-is, w.in_default.is) ] in
+    fold-turn add_packet a.local_send_times.now a.remote_recv_times.now l.i l.invariant (simp (t, c.copied-accumulator.ensures, done.ensures)) (omega arith)
 
 pub returns : goal.returns
 returns c =
     let a = c.args in
-    fold_end add_packet a.local-send-times.now a.remote-recv-times.now c.loop-i.i c.loop-i.invariant (omega arith)
+    fold_end add_packet a.local_send_times.now a.remote_recv_times.now c.loop-i.i c.loop-i.invariant (omega arith)
