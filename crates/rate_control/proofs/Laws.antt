@@ -26,7 +26,7 @@ use Rattle.rate_control.specs.declared.Signal.{Signal}
 use Rattle.rate_control.specs.declared.State.{State}
 use Rattle.rate_control.specs.declared.State.TheVariants.{Increase, Hold, Decrease}
 use Rattle.rate_control.specs.declared.RateControl.{RateControl}
-use Rattle.rate_control.specs.RateControl.{additive_increase, additive_step, beta, decrease, increase, increase_limit, increase_limit_margin, is_near_convergence, max_estimate_ratio, multiplicative_increase, new, raised, reset_above, time_to_reduce_further, transition, update, update_estimate, update_in, update_observed_bitrate, with_average, with_estimate, with_inputs, with_state}
+use Rattle.rate_control.specs.RateControl.{additive_increase, additive_step, beta, decrease, increase, increase_limit, increase_limit_margin, is_near_convergence, max_estimate_ratio, multiplicative_increase, raised, reset_above, time_to_reduce_further, transition, update, update_estimate, update_in, update_observed_bitrate, with_average, with_estimate, with_inputs, with_state}
 use Rattle.rate_control.specs.Laws.{AtLeastSmallest, InRange, Sound, estimate, update_estimate-sound}
 
 -- ---- the range

@@ -9,8 +9,7 @@ use Rattle.float_order.specs.Order.{ordered}
 use Rattle.float_order.specs.Ops.{zero₊}
 use Rattle.float_order.specs.Range.{In, nat, in-wider, in-closed}
 use Rattle.float_order.specs.Interval.{floats}
-use Rattle.bool_laws.specs.Bools.{chosen, holds}
-use Rattle.float.specs.Float.{clamp}
+use Rattle.bool_laws.specs.Bools.{chosen}
 use Rattle.float.specs.MinMax.{clamp-in}
 use Rattle.average.specs.Average as Average
 use Rattle.average.specs.Laws as Averages
