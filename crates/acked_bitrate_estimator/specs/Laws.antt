@@ -128,11 +128,11 @@ ready length w l h =
 
 remaining-less : (elapsed window : ℕ) → 1000 ≤ window → remaining elapsed window < window
 unfolding remaining
-remaining-less elapsed window h = go (window / 1000 == 0) (mod-lt (elapsed / 1000) (omega arith))
+remaining-less elapsed window h = go (window / 1000 == 0) _ _ (omega arith) (omega arith)
   where
-    go : (b : Bool) → elapsed / 1000 % (window / 1000) < window / 1000 → cond b 0 (elapsed / 1000 % (window / 1000) * 1000) < window
-    go true k = omega arith
-    go false k = omega arith
+    go : (b : Bool) (x y : ℕ) → x < window → y < window → cond b x y < window
+    go true x y k l = k
+    go false x y k l = l
 
 advance-ready : (w : Window) (gap length : ℕ) → ValidWindow length → ReachedWindow w → Ready length (advance w gap length)
 unfolding advance saturating_add
