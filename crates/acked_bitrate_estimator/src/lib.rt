@@ -1,4 +1,6 @@
 // src/bwe/acked_bitrate_estimator.rs: the rate at which packets are acknowledged, from sizes summed over windows of remote time.
+#![tactic(auto)]
+
 ghost use Rattle.std.specs.Prelude.{◌≡◌, ◌≤◌};
 ghost use Rattle.acked_bitrate_estimator.specs.AckedBitrateEstimator as Acked;
 

@@ -1,4 +1,6 @@
 // src/util/average.rs: an exponential moving average, with the variance and its root.
+#![tactic(auto)]
+
 ghost use Rattle.std.specs.Prelude.{◌≡◌};
 ghost use Rattle.average.specs.Average as Average;
 

@@ -1,4 +1,6 @@
 // crates/proto/src/bandwidth.rs: rates and sizes, two kinds of quantity, with the operations that a link uses.
+#![tactic(auto)]
+
 ghost use Rattle.std.specs.Prelude.{◌≡◌};
 ghost use Rattle.bandwidth.specs.Bandwidth as B;
 

@@ -51,7 +51,7 @@ module _ (n : ℕ) (below : n < 10) where
 
 -- what a call returned is an i64
 pub kept : {z : ℤ} → mag z < 2 ^ 63 → to_z w64 (of_z w64 z) ≡ z
-kept h = to_z-of_z (record { sfits = h })
+kept h = to_z-of_z {w = w64} (record { sfits = h })
 
 -- ---- a refusal leaves the lent places
 module _ {p : Reply} (q : Refusal) (no : p ≡ refused (number q)) where

@@ -1,5 +1,5 @@
 -- Laws of lent words and places.
-use Rattle.std.specs.Prelude.{◌≡◌, refl, ℕ, ◌%◌, ◌^◌, ◌≤◌, ◌<◌, List, [], ◌∷◌, ℤ, length}
+use Rattle.std.specs.Prelude.{◌≡◌, refl, ℕ, ◌^◌, ◌≤◌, ◌<◌, List, [], ◌∷◌, ℤ, length}
 use Rattle.std.proofs.Math.Path.{sym, ap}
 use Rattle.std.proofs.Common.{◌∙◌, mod-eq_of_lt, arith}
 use Rattle.twcc.specs.Feedback.{judge}

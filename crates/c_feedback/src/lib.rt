@@ -2,6 +2,8 @@
 // that it was started on. Any words are met with an answer: a word counts modulo the size of its number's type.
 //
 //   0 next_chunk   1 chunk   2 symbols_left   3 next_delta   4 packets_left   5 next_sequence   6 ticks
+#![tactic(auto)]
+
 ghost use Rattle.std.specs.Prelude.{◌≡◌, ◌%◌, ◌^◌, pos, length};
 ghost use Rattle.twcc.specs.Feedback.{judge};
 ghost use Rattle.feedback_reader.specs.Reader.{start};

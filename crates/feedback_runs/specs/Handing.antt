@@ -1,15 +1,15 @@
 -- Stepping from a started reader hands out the packets of the message one by one, and then none for ever.
-use Rattle.std.specs.Prelude.{◌≡◌, ℕ, zero, suc, ◌+◌, ◌*◌, ◌-◌, ◌≤◌, ◌<◌, Bool, true, false, ◌||◌, List, [], ◌∷◌, ◌++◌, map, eqb, ltb, ◌+ℤ◌, get_or, take, drop, replicate}
+use Rattle.std.specs.Prelude.{◌≡◌, ℕ, zero, suc, ◌+◌, ◌*◌, ◌-◌, ◌≤◌, ◌<◌, Bool, true, false, ◌||◌, List, [], ◌∷◌, ◌++◌, map, eqb, ◌+ℤ◌, get_or, take, drop, replicate}
 use Rattle.std.proofs.Math.Path.{refl, ap}
 use Rattle.std.proofs.Common.{sym, subst, ◌∙◌, zero-add, length-append, drop-drop}
 use native.Mathlib.Omega.{arith}
 use Rattle.std.proofs.Math.Nat.{sub_self}
 use Rattle.std.proofs.Math.ListN.{length, length-take}
-use borrow.Author.Tests.{lt-ltb, le-ltb, eq-eqb, ne_eqb, eqb-true, eqb-false}
+use borrow.Author.Tests.{le-ltb, eq-eqb, ne_eqb, eqb-true, eqb-false}
 use Rattle.bool_laws.specs.Bools.{cases}
-use Rattle.status_chunk.specs.Chunk.{symbol_count, symbol, symbol_left, symbols_from, delta_bytes, any_reserved}
+use Rattle.status_chunk.specs.Chunk.{symbol_count, symbol_left, symbols_from, delta_bytes, any_reserved}
 use Rattle.status_chunk.specs.Laws.{symbols-length}
-use Rattle.twcc.specs.Feedback.{read_u16, signed, header_bytes, base_seq, status_count, chunk_symbols, symbols, deltas_at, judge, recv_delta, packet, packets_from, packets}
+use Rattle.twcc.specs.Feedback.{signed, header_bytes, base_seq, status_count, chunk_symbols, symbols, deltas_at, judge, recv_delta, packet, packets_from, packets}
 use Rattle.twcc.specs.Numbers.{signed_low}
 use Rattle.twcc.specs.Judging.{judgement, judge_with_deltas}
 use Rattle.twcc.specs.declared.Header.{Header}

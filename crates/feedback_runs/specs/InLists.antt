@@ -1,5 +1,5 @@
 -- Packets handed out to lists are those of the message: n from a started reader are its first n packets, and readings with any rooms, one after another, go on where the one before ended (`packets-add`, crate feedback_lists).
-use Rattle.std.specs.Prelude.{◌≡◌, refl, ℕ, zero, suc, ◌+◌, ◌<◌, List, [], ◌∷◌, get_or, take}
+use Rattle.std.specs.Prelude.{◌≡◌, refl, ℕ, zero, suc, ◌<◌, List, [], ◌∷◌, get_or, take}
 use Rattle.std.proofs.Common.{sym, ap, ◌∙◌, arith, eq-eqb}
 use Rattle.twcc.specs.Feedback.{header_bytes, deltas_at, judge, packets}
 use Rattle.twcc.specs.Judging.{judgement, judge_with_deltas}

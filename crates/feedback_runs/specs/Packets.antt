@@ -10,8 +10,7 @@ use Rattle.twcc.specs.Feedback.{header_bytes, base_seq, status_count, read_heade
 use Rattle.twcc.specs.declared.Header.{Header}
 use Rattle.twcc.specs.declared.Judged.{Judged}
 use Rattle.twcc.specs.declared.Judged.TheVariants.{Good, CutShort, Reserved, NoStatus}
-use Rattle.twcc.specs.declared.Packet.{Packet}
-use Rattle.twcc.specs.declared.Packet.TheVariants.{NotReceived, Received}
+use Rattle.twcc.specs.declared.Packet.TheVariants.{NotReceived}
 use Rattle.feedback_lists.specs.Lists.{sequence_of}
 
 -- ---- a yes

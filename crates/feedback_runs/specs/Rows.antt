@@ -82,6 +82,7 @@ messages =
 
 -- ---- every row is what the definitions give
 each : {A B : Type 0} (f g : A → B) (r : A) (rs : List A) → map f rs ≡ map g rs → Member r rs → f r ≡ g r
+each f g r [] e m = elim m [ ]
 each f g r (s ∷ rs) e here = cc
 each f g r (s ∷ rs) e (there m) = each f g r rs (cc) m
 

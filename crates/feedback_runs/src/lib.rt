@@ -1,3 +1,5 @@
+#![tactic(auto)]
+
 // Theorems over whole feedback messages and readers of them: mathematics, there is no code.
 //   Statement   what a started reader hands out, over any number of steps; the rest of order 2 beside it, as one claim
 //   Handing     a reader's steps hand out the packets; Ticks: their times stay within 32 bits

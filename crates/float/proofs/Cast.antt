@@ -1,9 +1,9 @@
 -- The arms of `as_u64`.
-use Rattle.std.proofs.Common.{◌≡◌, ℕ, ◌+◌, ◌-◌, ◌*◌, ◌/◌, ◌^◌, ◌≤◌, min, true, false, T, pos, negsuc, sym, refl, ap, ◌∙◌, le-div_iff_mul-le, arith, ltb→lt, nltb→le}
+use Rattle.std.proofs.Common.{◌≡◌, ℕ, ◌+◌, ◌-◌, ◌*◌, ◌/◌, ◌^◌, ◌≤◌, min, true, false, T, pos, refl, le-div_iff_mul-le, arith, nltb→le}
 use native.Mathlib.Nat.{zero-div}
-use lib.Ieee.{Float, nan, inf, fin, binary64, up, down, of_bits, lt, le, eq, to_unsigned}
+use lib.Ieee.{Float, nan, inf, fin, binary64, up, down, of_bits, lt, le, to_unsigned}
 use lib.Ieee.Fits.{down_pos}
-use Rattle.float_order.specs.Order.{ordered, is_true, is_false, le-ordered-r, lt→le, not-le→lt, lt_trans, le→cross}
+use Rattle.float_order.specs.Order.{is_true, is_false, le-ordered-r, lt→le, not-le→lt, lt_trans, le→cross}
 use Rattle.float_order.specs.Interval.{floats}
 
 -- 0 and 2 ^ 64, as the code has them

@@ -1,4 +1,6 @@
 // Rust's `f64::min`, `max`, `clamp`, `abs` and `ceil`, and whether a float is in a range, for every input.
+#![tactic(auto)]
+
 ghost use Rattle.std.specs.Prelude.{◌≡◌};
 ghost use Rattle.std.specs.Float.Ieee.{to_unsigned};
 ghost use Rattle.float.specs.Float.{min, max, clamp, within, abs, ceil};

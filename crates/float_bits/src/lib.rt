@@ -1,4 +1,6 @@
 // Rust's `f64::from_bits` and `f64::to_bits`, for every input. There is one NaN here, with one pattern.
+#![tactic(auto)]
+
 ghost use Rattle.std.specs.Prelude.{◌≡◌};
 ghost use Rattle.std.specs.Float.{binary64};
 ghost use Rattle.std.specs.Float.Ieee.{of_bits, to_bits};

@@ -1,6 +1,6 @@
 -- What C gets from a feedback reader in lent words: `words_started`, `packets_to` and `words_after` are the definitions that the contracts of `hornetpewter_feedback_start` and `hornetpewter_feedback_next` cite (crate c_feedback), `packets` that of a message (crate twcc).
 use Rattle.std.proofs.Math.Path.{◌≡◌, refl, ap}
-use Rattle.std.proofs.Common.{sym, ◌∙◌, arith}
+use Rattle.std.proofs.Common.{◌∙◌, arith}
 use Prim.Native.Nat.{ℕ, zero, suc, ◌+◌, ◌<◌}
 use mathlib.Core.List.{List, [], ◌∷◌, ◌++◌}
 use Rattle.std.specs.Prelude.{ℤ, get_or, take}

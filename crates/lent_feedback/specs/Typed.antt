@@ -1,6 +1,6 @@
 -- A step keeps a cursor's numbers within their types, and so do a start and any number of steps.
-use Rattle.std.specs.Prelude.{◌≡◌, refl, List, [], ◌∷◌, eqb, ltb, length, get_or, drop}
-use Prim.Native.Nat.{ℕ, zero, suc, ◌+◌, ◌*◌, ◌-◌, ◌%◌, ◌^◌, ◌≤◌, ◌<◌}
+use Rattle.std.specs.Prelude.{◌≡◌, List, [], ◌∷◌, eqb, ltb, length, get_or, drop}
+use Prim.Native.Nat.{ℕ, zero, suc, ◌+◌, ◌*◌, ◌^◌, ◌<◌}
 use Rattle.std.proofs.Common.{arith}
 use Rattle.std.proofs.Math.Seq.{get_or-drop}
 use Rattle.bool_laws.specs.Bools.{cases, chosen}

@@ -124,10 +124,16 @@ module _ (g g' : ArrivalGroup) (h : Bounded most_instant most_instant g) (k : Bo
   judged-good : (old new : OptionOveruse) (sent : TimeDelta) (len : ℕ) → sent ≡ difference g'.last_local_send_time g.last_local_send_time → GoodOveruse (G.Some g) len old → Judged old sent new
       → GoodOveruse (G.Some g') 20 new
   unfolding next_overuse
-  judged-good Over.None new sent len e o cleared = tt
-  judged-good Over.None new sent len e o counted = (refl, rw e (begins g.last_local_send_time g'.last_local_send_time h.last-send k.last-send))
-  judged-good (Over.Some u) new sent len e o cleared = tt
-  judged-good (Over.Some u) new sent len e o counted = (refl, rw e (lasts g.last_local_send_time g'.last_local_send_time h.last-send k.last-send u.time_overusing o.1))
+  judged-good Over.None new sent len e o j = by sent new e j
+    where
+      by : (time : TimeDelta) (next : OptionOveruse) → time ≡ difference g'.last_local_send_time g.last_local_send_time → Judged Over.None time next → GoodOveruse (G.Some g') 20 next
+      by time next i cleared = tt
+      by time next i counted = (refl, rw i (begins g.last_local_send_time g'.last_local_send_time h.last-send k.last-send))
+  judged-good (Over.Some u) new sent len e o j = by sent new e j
+    where
+      by : (time : TimeDelta) (next : OptionOveruse) → time ≡ difference g'.last_local_send_time g.last_local_send_time → Judged (Over.Some u) time next → GoodOveruse (G.Some g') 20 next
+      by time next i cleared = tt
+      by time next i counted = (refl, rw i (lasts g.last_local_send_time g'.last_local_send_time h.last-send k.last-send u.time_overusing o.1))
 
 -- without a full history there was none
 none-good : (p q : OptionGroup) (o : OptionOveruse) (len len' : ℕ) → (len ≡ 20 → ⊥) → GoodOveruse p len o → GoodOveruse q len' o

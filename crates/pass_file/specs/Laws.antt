@@ -104,15 +104,15 @@ without-call h = record { numbers = h.numbers; few = omega arith }
 with_call : {n : ℕ} {c : Numbered} {cs : List Numbered} → c.number ≤ most_records → CallsOf n cs → CallsOf (suc n) (c ∷ cs)
 with_call i h = record { numbers = (i, h.numbers); few = omega arith }
 
-calls-few : (file : List ℕ) (waiting : List (List ℕ)) (ks : List ℕ) (low last : ℕ) → last ≤ most_records → Rising low last ks → CallsOf (length ks) (calls file waiting ks)
+calls-few : (file : List ℕ) (ks : List ℕ) (waiting : List (List ℕ)) (low last : ℕ) → last ≤ most_records → Rising low last ks → CallsOf (length ks) (calls file waiting ks)
 unfolding calls
-calls-few file waiting [] low last m r = record { numbers = tt; few = omega arith }
-calls-few file waiting (k ∷ ks) low last m r =
+calls-few file [] waiting low last m r = record { numbers = tt; few = omega arith }
+calls-few file (k ∷ ks) waiting low last m r =
     chosen
     (CallsOf (suc (length ks)))
     (eqb (kind (record_at file k)) Records.packet)
-    (without-call (calls-few file _ ks k last m r.1.1))
-    (with_call (omega arith) (calls-few file _ ks k last m r.1.1))
+    (without-call (calls-few file ks _ k last m r.1.1))
+    (with_call (omega arith) (calls-few file ks _ k last m r.1.1))
 
 -- ---- the listing of a linked file
 -- the link that a listing starts from is that of an accepted opening
@@ -150,7 +150,7 @@ module _ (most : ℕ) (m : most ≤ most_records) (file : List ℕ) (output : �
   unfolding listing
   listing-of-run =
       let f = linked-file most file output e in
-      let n = calls-few file [] (chain file) 0 (record_count file) (omega (arith, f.counted.few)) f.rising in
+      let n = calls-few file (chain file) [] 0 (record_count file) (omega (arith, f.counted.few)) f.rising in
       let s = lines-short first (file_calls file) first_good n.numbers in
       record {
         start = first-opened;

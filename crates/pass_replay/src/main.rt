@@ -118,12 +118,7 @@ fn read_header(header: &[u8]) -> Header {
 }
 
 // Reads a case's file and listing and compares. What is cut short or too long differs.
-fn compared(
-    input: &mut impl Read,
-    c: Header,
-    file: &mut [u8],
-    out: &mut [u8],
-) -> io::Result<bool> {
+fn compared(input: &mut impl Read, c: Header, file: &mut [u8], out: &mut [u8]) -> io::Result<bool> {
     let n = c.file;
     let room = c.output;
     let bytes = c.listing;

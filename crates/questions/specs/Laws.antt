@@ -1,5 +1,5 @@
 -- Laws of questions: the first no of two lists, what yes to question 4 tells, and packets that change their places.
-use Rattle.std.specs.Prelude.{ℕ, zero, suc, ◌<◌, ◌≤◌, ◌≡◌, refl, Bool, false, ◌&&◌, cond, leb}
+use Rattle.std.specs.Prelude.{ℕ, zero, suc, ◌<◌, ◌≤◌, ◌≡◌, refl, Bool, false, cond, leb}
 use Rattle.std.proofs.Common.{arith, sym, ◌∙◌}
 use Rattle.std.proofs.Math.Bool.{true}
 use mathlib.Core.List.{List, [], ◌∷◌, ◌++◌}
@@ -12,7 +12,6 @@ use Rattle.receive_order.specs.Lists.{All}
 use Rattle.receive_order.specs.Laws.{all-ordered, ordered-all, ordered-length, ordered-sorted}
 use Rattle.questions.specs.Questions.{Question, Report, every, first_no, in_order, instants_in, lists_in, number, of_report, ordered}
 use Rattle.questions.specs.declared.Refusal.{Refusal}
-use Rattle.questions.specs.declared.Refusal.TheVariants as Refusal
 
 -- ---- the first no
 -- every question has a number

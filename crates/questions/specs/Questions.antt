@@ -7,7 +7,6 @@ use Rattle.bandwidth.specs.declared.OptionBitrate.{OptionBitrate}
 use Rattle.bandwidth.specs.declared.OptionBitrate.TheVariants as Rate
 use Rattle.receive_order.specs.ReceiveOrder.{most_packets, receive_order, entries}
 use Rattle.questions.specs.declared.Refusal.{Refusal}
-use Rattle.questions.specs.declared.Refusal.TheVariants as Refusal
 use Rattle.questions.specs.declared.OptionRefusal.{OptionRefusal}
 use Rattle.questions.specs.declared.OptionRefusal.TheVariants as Option
 

@@ -1,4 +1,6 @@
 // Document 01's questions 2 to 9, with their numbers. Question 1 is of a link's state (crates/link_state).
+#![tactic(auto)]
+
 ghost use Rattle.std.specs.Prelude.{◌≡◌};
 ghost use Rattle.questions.specs.Questions as Questions;
 

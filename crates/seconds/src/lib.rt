@@ -1,4 +1,6 @@
 // Rust's `Duration::as_secs_f64` and `Duration::from_secs_f64`, of a duration in whole ns.
+#![tactic(auto)]
+
 ghost use Rattle.std.specs.Prelude.{◌≡◌, ◌+◌, ◌*◌, ◌%◌, ◌^◌, ◌≤◌, ◌<◌};
 ghost use Rattle.std.specs.Float.Ieee.Nearest.{closest};
 ghost use Rattle.seconds.specs.Seconds.{as_secs_f64, from_secs_f64};

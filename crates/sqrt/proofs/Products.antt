@@ -1,5 +1,5 @@
 -- Whether the whole root of big * 2 ^ 54, halved and rounded up, is q: by the squares of 2 * q - 1 and 2 * q + 1, which are odd and so no multiple of 2 ^ 54.
-use Rattle.std.proofs.Common.{◌≡◌, ℕ, ◌+◌, ◌-◌, ◌*◌, ◌/◌, ◌%◌, ◌^◌, ◌<◌, ◌≤◌, Bool, true, false, ◌&&◌, T, eqb, ltb, leb, refl, ap, mul_assoc, mul_comm, add-mul, mul-le-mul, div-add-mod', mul-add, mul_left_comm, arith, le→leb, eqb→eq, ltb→lt, lt→ltb, leb→le}
+use Rattle.std.proofs.Common.{◌≡◌, ℕ, ◌+◌, ◌-◌, ◌*◌, ◌/◌, ◌%◌, ◌^◌, ◌<◌, ◌≤◌, ◌&&◌, eqb, ltb, leb, ap, mul_assoc, mul_comm, add-mul, mul-le-mul, div-add-mod', mul-add, mul_left_comm, arith, le→leb, eqb→eq, ltb→lt, lt→ltb, leb→le}
 use lib.Ieee.Fits.{and_i, and_l, and_r, eq→eqb}
 use Rattle.bool_laws.specs.Bools.{same-holds}
 use Rattle.sqrt.specs.Sqrt.{whole_root}

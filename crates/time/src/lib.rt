@@ -1,5 +1,7 @@
 // src/bwe/time.rs: instants and lengths of time with their infinities. An instant and a duration are whole numbers of ns.
 // A finite length above MAX, given or computed, is the infinity of its sign; such an instant is `DistantFuture`, one below 0 `DistantPast`.
+#![tactic(auto)]
+
 ghost use Rattle.std.specs.Prelude.{◌≡◌, unsigned_abs};
 ghost use Rattle.time.specs.Time as Time;
 

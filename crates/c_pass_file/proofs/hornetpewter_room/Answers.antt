@@ -13,7 +13,7 @@ use Rattle.pass_records.specs.Laws.{least-most, least-some, length-counted, room
 use Rattle.c_pass_file.specs.CPassFile.{room}
 use Rattle.c_pass_file.proofs.hornetpewter_room.Goals as goal
 
-module _ (bytes : ℕ) {r : ℕ} (told : r ≡ Records.room-room most_records bytes) where
+module _ (bytes : ℕ) {r : ℕ} (told : r ≡ Records.room most_records bytes) where
   record Told : Type 0 where
     none : r ≡ 0 → neg_ℤ (pos 10) ≡ room bytes
     some : (r ≡ 0 → ⊥) → pos r ≡ room bytes

@@ -1,5 +1,5 @@
 -- `growth::bits` meets its contract: each row of the table passes the test, which is computed.
-use Rattle.std.proofs.Common.{sub-add_cancel, add-zero, arith}
+use Rattle.std.proofs.Common.{sub-add_cancel, add-zero}
 use Rattle.growth.specs.declared.TheConstants.{FACTORS_0, FACTORS_16, FACTORS_32, FACTORS_64, FACTORS_128, FACTORS_256, FACTORS_512}
 use Rattle.growth.proofs.Table.{row, right}
 use Rattle.growth.proofs.bits.Goals as goal

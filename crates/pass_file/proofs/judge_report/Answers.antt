@@ -4,13 +4,15 @@ use Rattle.pass_file.proofs.judge_report.Goals as goal
 
 pub returns : goal.returns
 returns c =
-    let p = c in
-    let s = p in
-    let e = p.put_in_order.ensures in
-    let q = s.args.sequences.now in
-    let d = s.args.sends.now in
-    let r = s.args.remotes.now in (
-      judged-report s.args.n s.args.sequences.now s.args.sizes.now s.args.sends.now s.args.remotes.now s.args.receives.now s.args.probe s.args.moment
-          s.requires.kept_lengths e.0 e.1.0 e.1.1.0 e.1.1.1 s.args.acked c.judge_report-judged.result c.judge_report-judged.ensures c.number.ensures,
-      (s.requires.kept_lengths.0, as_long s.args.n q d r s.args.sizes.now s.requires.kept_lengths.1 e.0, as_long s.args.n q d r s.args.sends.now s.requires.kept_lengths.2 e.1.0, as_long s.args.n q d r s.args.remotes.now s.requires.kept_lengths.3 e.1.1.0, as_long s.args.n q d r s.args.receives.now s.requires.kept_lengths.4 e.1.1.1),
-    )
+    let e = c.put_in_order.ensures in
+    let q = c.args.sequences.now in
+    let d = c.args.sends.now in
+    let r = c.args.remotes.now in
+    let l = c.requires.kept_lengths in
+    record {
+      judges_report =
+        judged-report c.args.n c.args.sequences.now c.args.sizes.now c.args.sends.now c.args.remotes.now c.args.receives.now c.args.probe c.args.moment
+        l e.sizes_after e.sends_after e.remotes_after e.receives_after c.args.acked c.judge_report-judged.result c.judge_report-judged.ensures c.number.ensures;
+      kept_lengths_2 =
+        (l.0, as_long c.args.n q d r c.args.sizes.now l.1 e.sizes_after, as_long c.args.n q d r c.args.sends.now l.2 e.sends_after, as_long c.args.n q d r c.args.remotes.now l.3 e.remotes_after, as_long c.args.n q d r c.args.receives.now l.4 e.receives_after);
+    }

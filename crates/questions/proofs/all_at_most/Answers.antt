@@ -1,5 +1,4 @@
 -- What is left of the list, after the answer so far, gives the answer.
-use Prim.Native.Nat.{◌-◌}
 use native.Mathlib.Omega.{arith}
 use mathlib.Core.Path.{refl, sym, ◌∙◌}
 use lib.Dec.{leb}

@@ -1,5 +1,5 @@
 -- `sqrt::root54` meets its contract: the invariant is `Digits`.
-use Rattle.std.proofs.Common.{◌≡◌, ℕ, ◌-◌, subst, ⊎_elim, arith}
+use Rattle.std.proofs.Common.{◌≡◌, ℕ, subst, arith}
 use Rattle.sqrt.proofs.Digits.{Digits, start, one_more, zero_more, end}
 use Rattle.sqrt.proofs.root54.Goals as goal
 use Rattle.sqrt.proofs.root54.Goals.{then-q-next, else-q-next}

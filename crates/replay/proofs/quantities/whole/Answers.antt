@@ -17,6 +17,6 @@ high x h = le_lt_trans x most (fin false 1 (pos 63)) (subst T (sym h) tt) (unfol
 
 pub truncating_f64_to_i64-requires : goal.truncating_f64_to_i64-requires
 truncating_f64_to_i64-requires c = record {
-      lower_bound = low _ c.if-x.true;
-      upper_bound = high _ c.if-x-2.true;
-    }
+  lower_bound = low _ c.if-x.true;
+  upper_bound = high _ c.if-x-2.true;
+}
