@@ -1,3 +1,5 @@
+#![tactic(auto)]
+
 // How the estimate of a rate control recovers over any list of calls, and of any link that holds one: mathematics for the link, there is no code.
 //   specs/Recovery.antt         what calls do to a rate control, and the claim of recovery
 //   proofs/RecoveryProof.antt   its proof
