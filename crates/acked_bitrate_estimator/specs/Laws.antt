@@ -1,7 +1,7 @@
 -- What packets keep of an estimator, from `new` on: `Reached`. The laws are at the end: `new-reached`, `update-reached` and what follows from `Reached`.
 use Rattle.std.specs.Prelude.{◌≡◌, ℕ, zero, suc, ◌+◌, ◌-◌, ◌*◌, ◌/◌, ◌%◌, ◌^◌, ◌<◌, ◌≤◌, min, Bool, true, false, cond, not, ◌&&◌, T, pos, ◌==◌, int_le, is_nan, nat_le, nat_lt, Float}
 use Rattle.std.proofs.Math.Path.{refl, subst}
-use Rattle.std.proofs.Common.{ap, mod-lt, arith, ltb-true, ltb-false, leb-false, leb→le}
+use Rattle.std.proofs.Common.{ap, arith, ltb-true, ltb-false, leb-false, leb→le}
 use Rattle.std.specs.Float.Ieee.{binary64, le, eq, lt, fits}
 use Rattle.std.specs.Float.Ieee.Bits.{of_bits-fits}
 use Rattle.std.specs.Float.Ieee.Fits.{add-fits, mul-fits, div-fits, of_int-fits}
