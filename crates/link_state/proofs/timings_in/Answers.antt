@@ -1,5 +1,4 @@
 -- The timings passed, and those left from the time passed last, decide as all do.
-use Prim.Native.Nat.{◌-◌}
 use mathlib.Core.Bool.{◌&&◌}
 use mathlib.Core.Path.{◌≡◌}
 use native.Mathlib.Omega.{arith}
