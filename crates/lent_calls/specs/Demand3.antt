@@ -20,7 +20,7 @@ use Rattle.link_runs.specs.Statement.{Call, call, run, threshold}
 use Rattle.link_runs.specs.Statement.Call.{report, timeout}
 use Rattle.link_runs.specs.Answered.{Answered, report-answered, timeout-answered}
 use Rattle.link_runs.specs.Answered.Answered.{turned_down, taken}
-use Rattle.link_runs.specs.Demand3.{demand-3}
+use Rattle.link_runs.proofs.Demand3.{demand-3}
 use Rattle.link_runs.specs.InRange.{reached-in-range}
 use Rattle.lent_calls.specs.LentCalls.{after, open_code, open_words, read, reply_to, stored, words_after}
 use Rattle.lent_calls.specs.Held.{call-held, opened-held}
