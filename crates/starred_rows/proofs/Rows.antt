@@ -1,5 +1,5 @@
 -- The theorem over the rows of specs/Rows.antt: each has the answer that the definitions give.
-use Rattle.std.specs.Prelude.{ℕ, ◌/◌, ◌≡◌, refl, Bool, true, List, ◌++◌, T, eqb, take, drop}
+use Rattle.std.specs.Prelude.{ℕ, ◌≡◌, refl, Bool, true, List, ◌++◌, T, eqb, take, drop}
 use Rattle.std.proofs.Common.{eqb→eq}
 use Rattle.std.specs.Float.Ieee.{to_bits}
 use Rattle.bool_laws.specs.Table.{Member, every, of-every, joined}
