@@ -3,7 +3,6 @@ use Rattle.std.specs.Prelude.{ℕ, ◌+◌, ◌-◌, ◌*◌, ◌^◌, ◌<◌, 
 use Rattle.std.specs.Float.{binary64}
 use Rattle.std.specs.Float.Ieee.{of_bits, to_bits}
 use Rattle.std.specs.Float.Ieee.Positive.{den}
-use Rattle.std.specs.Float.Ieee.Scale.{finite}
 use Rattle.float_order.specs.Order.{over}
 use Rattle.float_order.specs.Dyadic.{Is}
 use Rattle.growth.specs.Growth.{last_entry}
