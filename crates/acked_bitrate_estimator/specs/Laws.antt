@@ -1,7 +1,7 @@
 -- What packets keep of an estimator, from `new` on: `Reached`. The laws are at the end: `new-reached`, `update-reached` and what follows from `Reached`.
 use Rattle.std.specs.Prelude.{◌≡◌, ℕ, zero, suc, ◌+◌, ◌-◌, ◌*◌, ◌/◌, ◌%◌, ◌^◌, ◌<◌, ◌≤◌, min, Bool, true, false, cond, not, ◌&&◌, T, pos, ◌==◌, int_le, is_nan, nat_le, nat_lt, Float}
 use Rattle.std.proofs.Math.Path.{refl, subst}
-use Rattle.std.proofs.Common.{ap, mod-lt, arith, ltb-true, ltb-false, leb-false, leb→le}
+use Rattle.std.proofs.Common.{ap, arith, ltb-true, ltb-false, leb-false, leb→le}
 use Rattle.std.specs.Float.Ieee.{binary64, le, eq, lt, fits}
 use Rattle.std.specs.Float.Ieee.Bits.{of_bits-fits}
 use Rattle.std.specs.Float.Ieee.Fits.{add-fits, mul-fits, div-fits, of_int-fits}
@@ -128,11 +128,11 @@ ready length w l h =
 
 remaining-less : (elapsed window : ℕ) → 1000 ≤ window → remaining elapsed window < window
 unfolding remaining
-remaining-less elapsed window h = go (window / 1000 == 0) (mod-lt (elapsed / 1000) (omega arith))
+remaining-less elapsed window h = go (window / 1000 == 0) _ _ (omega arith) (omega arith)
   where
-    go : (b : Bool) → elapsed / 1000 % (window / 1000) < window / 1000 → cond b 0 (elapsed / 1000 % (window / 1000) * 1000) < window
-    go true k = omega arith
-    go false k = omega arith
+    go : (b : Bool) (x y : ℕ) → x < window → y < window → cond b x y < window
+    go true x y k l = k
+    go false x y k l = l
 
 advance-ready : (w : Window) (gap length : ℕ) → ValidWindow length → ReachedWindow w → Ready length (advance w gap length)
 unfolding advance saturating_add

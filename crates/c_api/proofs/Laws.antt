@@ -19,7 +19,7 @@ use Rattle.link_state.specs.declared.Link.{Link}
 use Rattle.link_words.specs.LinkWords.{formed, hypothesis_tag, of_words, timeout_words, to_words}
 use Rattle.link.specs.Link.{Outcome, Reply, accepted, accepted_with, estimate, hypothesis, next_timeout, refused}
 use Rattle.link_runs.specs.Statement.{Call, call, threshold}
-use Rattle.lent_calls.specs.AnyWords.{question-1}
+use Rattle.lent_calls.proofs.AnyWords.{question-1}
 use Rattle.lent_calls.specs.LentCalls.{after, bitrate_after, code, hypothesis_after, next_timeout_after, read, reply_to, stored, threshold_after, words_after}
 
 -- what an accepted call shows of the link that it hands back
@@ -51,7 +51,7 @@ module _ (n : ℕ) (below : n < 10) where
 
 -- what a call returned is an i64
 pub kept : {z : ℤ} → mag z < 2 ^ 63 → to_z w64 (of_z w64 z) ≡ z
-kept h = to_z-of_z (record { sfits = h })
+kept h = to_z-of_z {w = w64} (record { sfits = h })
 
 -- ---- a refusal leaves the lent places
 module _ {p : Reply} (q : Refusal) (no : p ≡ refused (number q)) where

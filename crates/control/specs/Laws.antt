@@ -1,5 +1,5 @@
 -- Laws of the delay controller: the next timeout, a probe's estimate, what a call leaves as it was, and the range of the smoothed round trip.
-use Rattle.std.specs.Prelude.{ℕ, ◌/◌, ◌%◌, ◌^◌, ◌≤◌, ◌≡◌, Bool, true, false, cond, List, [], ◌∷◌, T, ltb, Float, pos}
+use Rattle.std.specs.Prelude.{ℕ, ◌/◌, ◌%◌, ◌^◌, ◌≤◌, ◌≡◌, List, [], ◌∷◌, T, ltb, Float, pos}
 use Rattle.std.proofs.Common.{arith}
 use Rattle.std.proofs.Math.Path.{refl}
 use Rattle.std.specs.Float.Ieee.{binary64, div, fits, of_int}

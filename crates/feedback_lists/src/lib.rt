@@ -88,8 +88,8 @@ fn read_run(
     at: usize,
     n: usize,
 ) -> Cursor
-    requires n_in_bounds { (cursor.next_delta + n ≤ length message.now) × ((n ≤ cursor.symbols_left) × (n ≤ cursor.packets_left)) }
-    requires n_in_bounds_2 { (at + n ≤ length statuses.old) × (at + n ≤ length ticks.old) }
+    requires at_hand { (cursor.next_delta + n ≤ length message.now) × ((n ≤ cursor.symbols_left) × (n ≤ cursor.packets_left)) }
+    requires room { (at + n ≤ length statuses.old) × (at + n ≤ length ticks.old) }
     ensures value { result ≡ Run.after_run cursor n (Run.run_ticks n message.now cursor.next_delta cursor.ticks) }
     ensures statuses_after { statuses.new ≡ sets statuses.old at (replicate n 1) }
     ensures ticks_after { ticks.new ≡ sets ticks.old at (Run.run_times n message.now cursor.next_delta cursor.ticks) }

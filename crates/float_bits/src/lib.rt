@@ -6,6 +6,7 @@ ghost use Rattle.std.specs.Float.{binary64};
 ghost use Rattle.std.specs.Float.Ieee.{of_bits, to_bits};
 
 // The float whose bits are n. Every pattern of a NaN gives the one NaN.
+#[tactic(auto, using(crate::proofs::Patterns::nan_pattern))]
 pub fn from_bits(n: u64) -> f64
     ensures { result ≡ of_bits binary64 n }
 {

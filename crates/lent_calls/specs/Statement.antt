@@ -1,5 +1,5 @@
 -- What is claimed of a link that is lent as words, as C and Rust hold one: calls on its words are a run of the link, its estimate cannot be jammed (demand 3), whatever
--- the words hold a call meets question 1 first, is one of the link that they hold and leaves them where it is refused, and words that are not read tell nothing. The proofs are Demand3.antt and AnyWords.antt.
+-- the words hold a call meets question 1 first, is one of the link that they hold and leaves them where it is refused, and words that are not read tell nothing. The proofs are proofs/Demand3.antt and proofs/AnyWords.antt.
 use Rattle.std.specs.Prelude.{◌≡◌, true, false, ◌&&◌, List, [], ◌∷◌, ◌++◌, ℕ, ◌*◌, ◌^◌, ◌<◌, T, pos, get_or, length, Float}
 use Rattle.std.specs.Float.Ieee.{le}
 use Rattle.std.specs.Float.{nan}

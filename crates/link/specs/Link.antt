@@ -12,9 +12,7 @@ use Rattle.link_state.specs.State.{in_range}
 use Rattle.link_state.specs.declared.Link.{Link}
 use Rattle.link.specs.declared.Opening.{Opening}
 use Rattle.link.specs.declared.Opened.{Opened}
-use Rattle.link.specs.declared.Opened.TheVariants as Opened
 use Rattle.link.specs.declared.Answer.{Answer}
-use Rattle.link.specs.declared.Answer.TheVariants as Answer
 use Rattle.link.specs.declared.Called.{Called}
 use Rattle.link.specs.declared.Judged.{Judged}
 

@@ -1,5 +1,7 @@
 // A link's calls: opening, report and timeout (src/bwe/mod.rs, `SendSideBandwidthEstimator::update`, and document 01's questions). A call that a question
 // turns down gives that question's answer and the link as it came in.
+#![tactic(auto)]
+
 ghost use Rattle.std.specs.Prelude.{◌≡◌, true};
 ghost use Rattle.questions.specs.Questions.{number, report-of};
 ghost use Rattle.link_state.specs.State.{in_range};

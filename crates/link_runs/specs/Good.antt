@@ -25,6 +25,7 @@ use Rattle.bool_laws.specs.Bools.{cases, both, holds}
 use Rattle.rate_control.specs.RateControl as RateControl
 use Rattle.rate_control.specs.Laws as Rates
 use Rattle.rate_control.specs.Laws.{InstantAtMost, DurationAtMost}
+use Rattle.rate_control.proofs.Laws.{update-sound}
 use Rattle.rate_control.specs.declared.RateControl as R
 use Rattle.control.specs.Control as Control
 use Rattle.control.specs.Control.{detector, get_smoothed_rtt, handle_timeout, rate_after, rtt_of, rtt_smoothing_factor, trendline_hypothesis_valid, update_estimate, update_interval, with_packets, with_rate}
@@ -90,7 +91,7 @@ rate-good Rate.None Rate.None c now f v n k g = g
 rate-good Rate.None (Rate.Some b) c now f v n k g =
     let s = RateControl.signal c.trendline_estimator.hypothesis in
     record {
-      sound = Rates.update-sound c.rate_control s b (get_smoothed_rtt c) now (rate-finite v) g.sound;
+      sound = update-sound c.rate_control s b (get_smoothed_rtt c) now (rate-finite v) g.sound;
       kept =
           Rates.update-kept most_instant most_instant b now (in-wider v.range (unfold floats in tt)) v.held n c.rate_control s (get_smoothed_rtt c)
           (unfold get_smoothed_rtt in rtt-most c.smoothed_rtt.average k.average-in) g.kept;

@@ -4,5 +4,4 @@ pub mod Overuse
 pub mod Packets
 pub mod Answered
 pub mod Good
-pub mod Demand3
 pub mod InRange

@@ -1,4 +1,4 @@
--- Demand 3: a link's estimate cannot be jammed. The statement, in document 01's terms ("Runs of a link"); its proof is Demand3.antt.
+-- Demand 3: a link's estimate cannot be jammed. The statement, in document 01's terms ("Runs of a link"); its proof is proofs/Demand3.antt.
 use Rattle.std.specs.Prelude.{◌≡◌, cond, List, [], ◌∷◌, ◌++◌, ℕ, ◌*◌, ◌^◌, ◌<◌, T, Float}
 use Rattle.std.specs.Float.Ieee.{le}
 use Rattle.std.specs.Float.Ieee.Scale.{finite}

@@ -1,5 +1,5 @@
 -- 10^30, 10^31 and 0.8 are no floats. No float lies between such a limit and the float that question 1 tests against, so the test is the exact one.
-use Rattle.std.specs.Prelude.{◌≡◌, refl, Bool, true, false, ℕ, suc, ◌+◌, ◌*◌, ◌^◌, ◌≤◌, ◌<◌, pos, T, leb, Float}
+use Rattle.std.specs.Prelude.{◌≡◌, false, ℕ, suc, ◌+◌, ◌*◌, ◌^◌, ◌≤◌, ◌<◌, pos, T, leb, Float}
 use Rattle.std.proofs.Common.{sym, ap, ◌∙◌, subst, inl, le_of_eq as nat-le-of-eq, lt_of_le_of_lt, lt_of_lt_of_le, lt_of_not-le, mul_assoc, mul_right_comm, mul-le-mul_left, mul-le-mul_right, mul-lt-mul_of_pos_right, arith, leb→le, le→leb, lit<, lit≤, pow-add, pow_pos}
 use Rattle.std.proofs.Math.Logic.{inr}
 use Rattle.std.specs.Float.{fin, binary64}

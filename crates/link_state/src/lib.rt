@@ -1,4 +1,6 @@
 // The state of a link, and document 01's question 1: whether a lent one is in range. Whatever it holds, the test is defined.
+#![tactic(auto)]
+
 ghost use Rattle.std.specs.Prelude.{◌&&◌, ◌≡◌, ◌≤◌, take};
 ghost use Rattle.std.specs.Float.Ieee as Ieee;
 ghost use Rattle.link_state.specs.State as State;

@@ -1,12 +1,12 @@
 -- The difference of -1 and a number: its bits are the number's, each turned over.
 use Prim.Native.Nat.{ℕ, zero, suc, ◌+◌, ◌-◌, ◌^◌, ◌≤◌, ◌<◌}
 use native.Mathlib.Omega.{arith}
-use mathlib.Core.Path.{◌≡◌, refl, sym, ap, ◌∙◌}
+use mathlib.Core.Path.{◌≡◌, refl, ap, ◌∙◌}
 use mathlib.Core.Bool.{true, false, false≢true}
 use lib.Dec.{T}
 use lib.IntN.{ℤ, pos, negsuc, nat_abs, ◌-ℤ◌}
 use lib.Signed.{le_z, non_neg}
-use mir.Facts.{to_z-of_z, to_z_pos}
+use mir.Facts.{to_z_pos}
 use mir.Syntax.{w64}
 use mir.Val.{SFits, Fits, to_z, of_z}
 use borrow.Author.Tests.{le-ltb, leb-false}

@@ -12,6 +12,8 @@
 //
 // A group is its tag and four instants in the order of its fields, an average its factor, the tag and bits of the average, variance and deviation. The tags of enums count their
 // variants from 0.
+#![tactic(auto)]
+
 ghost use Rattle.std.specs.Prelude.{◌≡◌, map, ◌+◌, ◌≤◌, length};
 ghost use Rattle.std.specs.Float.{binary64};
 ghost use Rattle.std.specs.Float.Ieee.{to_bits};

@@ -16,7 +16,7 @@ use Rattle.link.specs.Link.{accepted_with, estimate, hypothesis, next_timeout, o
 use Rattle.link.specs.Laws.{opening-yes}
 use Rattle.link_runs.specs.Statement.{Call, call, report, timeout, run}
 use Rattle.link_runs.specs.Good.{Good, call-good, run-good, opening-good}
-use Rattle.link_runs.specs.Demand3.{demand-3}
+use Rattle.link_runs.proofs.Demand3.{demand-3}
 use Rattle.pass_records.specs.PassRecords as Records
 use Rattle.pass_records.specs.PassRecords.{chain, judge, kind, most_records, most_short, number, record_at, record_count}
 use Rattle.pass_records.specs.Laws.{Rising, least-enough, linked-file}

@@ -1,32 +1,13 @@
 -- Worked examples: a rate control that is fresh at 1,000,000 bps, and what is added to an estimate near convergence.
-use Rattle.std.specs.Prelude.{◌^◌, ◌≡◌, Bool, true, List, [], ◌∷◌, T, eqb, Float}
-use Rattle.std.proofs.Common.{eqb→eq}
+use Rattle.std.specs.Prelude.{◌^◌, Bool, true, List, [], ◌∷◌, T, Float}
 use Rattle.std.specs.Float.Ieee as Ieee
-use Rattle.std.specs.Float.{binary64}
-use Rattle.std.specs.Float.Ieee.{to_bits}
-use Rattle.bool_laws.specs.Table.{Member, every, of-every}
 use Rattle.float_order.specs.Binary64.{lit, decimal}
 use Rattle.float.specs.Float.{helpers}
-use Rattle.seconds.specs.Seconds.{as_secs_f64}
 use Rattle.growth.specs.Growth.{growth_factor, growth}
 use Rattle.average.specs.Average as Average
 use Rattle.bandwidth.specs.Bandwidth as B
 use Rattle.rate_control.specs.declared.RateControl.{RateControl}
-use Rattle.rate_control.specs.RateControl.{
-  additive_step,
-  default_backoff_time,
-  estimated_packet_size,
-  increase,
-  is_near_convergence,
-  multiplicative_increase,
-  new,
-  raised,
-  reset_above,
-  response_time,
-  update_estimate,
-  with_average,
-  with_estimate,
-}
+use Rattle.rate_control.specs.RateControl.{increase, is_near_convergence, multiplicative_increase, new, raised, reset_above, update_estimate, with_average, with_estimate}
 
 abbrev pub fresh : RateControl
 fresh = new (B.bps 1000000) (B.bps 40000) (B.bps (10 ^ 10))
@@ -61,19 +42,3 @@ rows =
     -- 4,799.892482408393
     ∷ row (decimal (10 ^ 10) 1) (lit 0x40b2_bfe4_79ba_244e)
     ∷ []
-
-abbrev step_at : Float → Float
-step_at e = additive_step (B.rate e) 0 default_backoff_time
-
-abbrev holds : Row → Bool
-holds r = eqb (to_bits binary64 (step_at r.estimate)) (to_bits binary64 r.step)
-
-unfoldable stepped : Bool
-unfolding rows every to_bits helpers estimated_packet_size response_time as_secs_f64
-stepped = true
-
-computed : T (every holds rows)
-computed = unfold stepped in tt
-
-pub row-holds : (r : Row) → Member r rows → to_bits binary64 (additive_step (B.rate r.estimate) 0 default_backoff_time) ≡ to_bits binary64 r.step
-row-holds r m = eqb→eq (to_bits binary64 (step_at r.estimate)) (to_bits binary64 r.step) (of-every holds r rows computed m)

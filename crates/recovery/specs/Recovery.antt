@@ -1,4 +1,4 @@
--- What calls do to a rate control, and how its estimate recovers: the claim, whose proof is RecoveryProof.
+-- What calls do to a rate control, and how its estimate recovers: the claim, whose proof is proofs/RecoveryProof.antt.
 use Rattle.std.specs.Prelude.{◌≡◌, false, List, [], ◌∷◌, ℕ, suc, ◌*◌, ◌^◌, ◌<◌, negsuc, T, Float}
 use Rattle.std.specs.Float.{fin}
 use Rattle.std.specs.Float.Ieee.{le}

@@ -1,12 +1,10 @@
 -- Range and recovery over the runs of any machine that holds a rate control, such as a link, whose calls are reports and timeouts.
-use Rattle.std.specs.Prelude.{◌≡◌, refl, List, [], ◌∷◌, ◌++◌, ℕ, ◌*◌, ◌<◌, T, Float}
-use Rattle.std.proofs.Common.{ap, ◌∙◌}
+use Rattle.std.specs.Prelude.{◌≡◌, List, [], ◌∷◌, ◌++◌, ℕ, ◌*◌, ◌<◌, T, Float}
 use Rattle.std.specs.Float.Ieee.Scale.{finite}
 use Rattle.float_order.specs.Range.{In, nat}
 use Rattle.rate_control.specs.Laws.{InRange, Sound, estimate}
 use Rattle.rate_control.specs.declared.RateControl.{RateControl}
-use Rattle.recovery.specs.Recovery.{Change, Each, Finite, Reached, Steady, after, after_all, updates}
-use Rattle.recovery.specs.RecoveryProof.{recovers}
+use Rattle.recovery.specs.Recovery.{Change, Each, Finite, Reached, Steady, after, updates}
 
 -- what a call makes of the machine, its rate control and delay threshold, and what a call does to the rate control
 pub record Machine (Link Call : Type 0) : Type 0 where
@@ -44,30 +42,3 @@ module _ {Link Call : Type 0} (m : Machine Link Call) where
     pub good-finite : (l : Link) (k : Call) → Good l → Finite (m.change l k)
     pub good-sound : (l : Link) → Good l → Sound (m.control l)
     pub good-threshold : (l : Link) → Good l → In (nat 6) (nat 600) (m.threshold l)
-
-  module _ {Good : Link → Type 0} (keeps : Keeps Good) where
-    run-good : (l : Link) (ks : List Call) → Good l → Good (run l ks)
-    run-good l [] g = g
-    run-good l (k ∷ ks) g = run-good (m.step l k) ks (keeps.good-after l k g)
-
-    changes-finite : (l : Link) (ks : List Call) → Good l → Each Finite (changes l ks)
-    changes-finite l [] g = tt
-    changes-finite l (k ∷ ks) g = (keeps.good-finite l k g, changes-finite (m.step l k) ks (keeps.good-after l k g))
-
-    run-control : (l : Link) (ks : List Call) → m.control (run l ks) ≡ after_all (m.control l) (changes l ks)
-    run-control l [] = refl
-    run-control l (k ∷ ks) = run-control (m.step l k) ks ∙ ap (λ (c : RateControl). after_all c (changes (m.step l k) ks)) (keeps.control-after l k)
-
-    run-append : (l : Link) (xs ys : List Call) → run l (xs ++ ys) ≡ run (run l xs) ys
-    run-append l [] ys = refl
-    run-append l (x ∷ xs) ys = run-append (m.step l x) xs ys
-
-    pub holds : (l : Link) → Good l → (calls : List Call) → Holds l calls
-    holds l g calls = record {
-      estimate-in = (keeps.good-sound (run l calls) (run-good l calls g)).in-range;
-      threshold-in = keeps.good-threshold (run l calls) (run-good l calls g);
-      recovery = λ before later e n R r s u.
-          let g' : Good (run l before) = run-good l before g in
-          rw (e, run-append l before later, run-control (run l before) later)
-          (recovers (m.control (run l before)) (changes (run l before) later) (keeps.good-sound (run l before) g') (changes-finite (run l before) later g') n R r s u);
-    }

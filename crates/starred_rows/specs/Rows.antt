@@ -1,21 +1,15 @@
--- The 13 starred rows of document 01 as one table, and one theorem over its rows: each has the answer that the definitions give.
-use Rattle.std.specs.Prelude.{ℕ, ◌*◌, ◌^◌, ◌/◌, ◌≡◌, refl, Bool, true, cond, List, [], ◌∷◌, ◌++◌, T, eqb, pos, take, drop}
-use Rattle.std.proofs.Common.{eqb→eq}
+-- The 13 starred rows of document 01 as one table. Each has the answer that the definitions give: proofs/Rows.antt.
+use Rattle.std.specs.Prelude.{ℕ, ◌*◌, ◌^◌, ◌/◌, cond, List, [], ◌∷◌, pos}
 use Rattle.std.specs.Float.{binary64}
 use Rattle.std.specs.Float.Ieee.{of_int, to_bits}
-use Rattle.bool_laws.specs.Table.{Member, every, of-every, joined}
 use Rattle.float_order.specs.Binary64.{lit}
-use Rattle.float.specs.Float.{helpers}
 use Rattle.sqrt.specs.Sqrt.{sqrt}
-use Rattle.seconds.specs.Seconds.{as_secs_f64}
-use Rattle.growth.specs.Growth.{growth_factor, growth}
-use Rattle.average.specs.Average as Average
+use Rattle.growth.specs.Growth.{growth_factor}
 use Rattle.bandwidth.specs.Bandwidth as B
 use Rattle.bandwidth.specs.declared.BandwidthUsage.{BandwidthUsage}
 use Rattle.bandwidth.specs.declared.BandwidthUsage.TheVariants.{Overuse, Normal}
 use Rattle.bandwidth.specs.declared.OptionBitrate.{OptionBitrate}
 use Rattle.bandwidth.specs.declared.OptionBitrate.TheVariants as Rate
-use Rattle.time.specs.Time.{saturating_add}
 use Rattle.acked_bitrate_estimator.specs.AckedBitrateEstimator as Acked
 use Rattle.acked_bitrate_estimator.specs.declared.AckedBitrateEstimator.{AckedBitrateEstimator}
 use Rattle.acked_bitrate_estimator.specs.declared.OptionSample.{OptionSample}
@@ -25,7 +19,7 @@ use Rattle.trendline.specs.Trendline as Trendline
 use Rattle.trendline.specs.Trendline.{threshold, new_delays}
 use Rattle.rate_control.specs.RateControl as R
 use Rattle.control.specs.Control as Control
-use Rattle.control.specs.Control.{update_estimate, with_rate, get_smoothed_rtt}
+use Rattle.control.specs.Control.{update_estimate}
 use Rattle.control.specs.declared.DelayController.{DelayController}
 
 -- ---- questions, and what the definitions answer: a float by its bits
@@ -138,39 +132,3 @@ rows =
     ∷ row (factor 0) (whole 1)
     ∷ row (factor 1000) 0x3ff1_47ae_147a_e148
     ∷ []
-
--- ---- the theorem
-abbrev holds : Row → Bool
-holds r = eqb (answer r.question) r.gives
-
--- what a row computes through
-unfoldable steps : Bool
-unfolding rows every answer after to_bits update_estimate with_rate get_smoothed_rtt Control.new R.signal R.update R.with_inputs R.transition R.with_average R.with_state R.with_estimate R.update_estimate R.increase R.reset_above R.raised R.is_near_convergence R.multiplicative_increase R.decrease R.update_observed_bitrate R.reset_below R.time_to_reduce_further R.reduction_interval growth_factor growth Average.update Average.upper_range Average.lower_range Average.within_std B.clamp Acked.update Acked.filled Acked.with_packet Acked.with_sample Acked.sample Acked.advance Acked.remaining Acked.window_length saturating_add B.saturated B.per_secs as_secs_f64 rounded threshold sqrt helpers
-steps = true
-
--- a growth factor takes a quarter of what one declaration may compute, so the table is computed in four parts
-unfoldable part : ℕ → ℕ → List Row
-unfolding rows
-part from n = take n (drop from rows)
-
-part-1 : T (every holds (part 0 4))
-part-1 = unfold steps part in tt
-
-part-2 : T (every holds (part 4 5))
-part-2 = unfold steps part in tt
-
-part-3 : T (every holds (part 9 7))
-part-3 = unfold steps part in tt
-
-part-4 : T (every holds (part 16 1))
-part-4 = unfold steps part in tt
-
-computed : T (every holds (part 0 4 ++ (part 4 5 ++ (part 9 7 ++ part 16 1))))
-computed = joined holds (part 0 4) (part 4 5 ++ (part 9 7 ++ part 16 1)) part-1 (joined holds (part 4 5) (part 9 7 ++ part 16 1) part-2 (joined holds (part 9 7) (part 16 1) part-3 part-4))
-
-parts : rows ≡ part 0 4 ++ (part 4 5 ++ (part 9 7 ++ part 16 1))
-unfolding rows part
-parts = refl
-
-pub row-holds : (r : Row) → Member r rows → answer r.question ≡ r.gives
-row-holds r m = eqb→eq (answer r.question) r.gives (of-every holds r rows (rw parts computed) m)

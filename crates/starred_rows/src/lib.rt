@@ -1,1 +1,3 @@
-// The starred rows of document 01, proved of the definitions: specs/Rows.antt. No code.
+#![tactic(auto)]
+
+// The starred rows of document 01, proved of the definitions: specs/Rows.antt, whose theorem is proofs/Rows.antt. No code.

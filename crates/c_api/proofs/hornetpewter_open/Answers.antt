@@ -21,10 +21,16 @@ returns-in-Accepted c =
     let made = c in
     let judged = made in
     let is = started-is judged.judge-judged.ensures judged.in-Accepted.is in
-    (ap open_code is, c.store.ensures ∙ ap to_words made.link-opened.ensures ∙ words-is is judged.args.link.now)
+    record {
+      value = ap open_code is;
+      link_after = c.store.ensures ∙ ap to_words made.link-opened.ensures ∙ words-is is judged.args.link.now;
+    }
 
 pub returns-in-Refused : goal.returns-in-Refused
 returns-in-Refused c =
     let judged = c in
     let is = started-is judged.judge-judged.ensures judged.in-Refused.is in
-    (kept c.code.type-inv ∙ c.code.ensures ∙ ap open_code is, words-is is judged.args.link.now)
+    record {
+      value = kept c.code.type_inv ∙ c.code.ensures ∙ ap open_code is;
+      link_after = words-is is judged.args.link.now;
+    }

@@ -8,7 +8,13 @@ use Rattle.c_api.proofs.hornetpewter_read.Goals as goal
 pub returns-then-not-in_range : goal.returns-then-not-in_range
 returns-then-not-in_range c =
     let no = read_out _ c.load-lent.ensures (was-no c.in_range.ensures c.if-not-in_range.true) in
-    (code-no OutOfRange no c.code.type-inv c.code.ensures, (bitrate-no OutOfRange no _, (hypothesis-no OutOfRange no _, (next-timeout-no OutOfRange no _, threshold-no OutOfRange no _ _))))
+    record {
+      value = code-no OutOfRange no c.code.type_inv c.code.ensures;
+      bitrate_after = bitrate-no OutOfRange no _;
+      hypothesis_after = hypothesis-no OutOfRange no _;
+      next_timeout_after = next-timeout-no OutOfRange no _;
+      threshold_after = threshold-no OutOfRange no _ _;
+    }
 
 pub returns : goal.returns
 returns c =
@@ -17,4 +23,10 @@ returns c =
     let load = q1.load-lent in
     let yes = read-in _ load.ensures (was-yes q1.in_range.ensures q1.if-not-in_range.false) in
     let l = load.result in
-    (code-yes l yes, (tell.0 ∙ bitrate-yes l yes _, (tell.1.0 ∙ hypothesis-yes l yes _, (tell.1.1 ∙ next-timeout-yes l yes _, threshold-yes l yes _ load.ensures _))))
+    record {
+      value = code-yes l yes;
+      bitrate_after = tell.bitrate_after ∙ bitrate-yes l yes _;
+      hypothesis_after = tell.hypothesis_after ∙ hypothesis-yes l yes _;
+      next_timeout_after = tell.next_timeout_after ∙ next-timeout-yes l yes _;
+      threshold_after = threshold-yes l yes _ load.ensures _;
+    }

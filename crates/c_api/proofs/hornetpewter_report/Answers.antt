@@ -18,7 +18,13 @@ probed l r e = ap (λ q. report l (report-of r.sequences r.sizes r.sends r.remot
 pub returns-then-not-in_range : goal.returns-then-not-in_range
 returns-then-not-in_range c =
     let no = call-out _ c.load-lent.ensures _ (was-no c.in_range.ensures c.if-not-in_range.true) in
-    (code-no OutOfRange no c.code.type-inv c.code.ensures, (words-kept _ _ OutOfRange no, (bitrate-no OutOfRange no _, (hypothesis-no OutOfRange no _, next-timeout-no OutOfRange no _))))
+    record {
+      value = code-no OutOfRange no c.code.type_inv c.code.ensures;
+      link_after = words-kept _ _ OutOfRange no;
+      bitrate_after = bitrate-no OutOfRange no _;
+      hypothesis_after = hypothesis-no OutOfRange no _;
+      next_timeout_after = next-timeout-no OutOfRange no _;
+    }
 
 pub returns-then-is_sorted : goal.returns-then-is_sorted
 returns-then-is_sorted c =
@@ -28,7 +34,13 @@ returns-then-is_sorted c =
     let good = both _ _ (was-yes q1.in_range.ensures q1.if-not-in_range.false) in
     let loaded = q1.load-lent.ensures in
     let told = report-sorted _ _ good.1 (sym sorted.is_sorted.ensures ∙ c.if-is_sorted.true) ∙ probed _ _ sorted.probe_result-result.ensures in
-    (code_is _ loaded _ good.0 told c.report_in_order.type-inv stored.0, (stored.1.0 ∙ words-is _ loaded _ good.0 told, (stored.1.1.0 ∙ bitrate-is _ loaded _ good.0 told _, (stored.1.1.1.0 ∙ hypothesis-is _ loaded _ good.0 told _, stored.1.1.1.1 ∙ next-timeout-is _ loaded _ good.0 told _))))
+    record {
+      value = code_is _ loaded _ good.0 told c.report_in_order.type_inv stored.value;
+      link_after = stored.link_after ∙ words-is _ loaded _ good.0 told;
+      bitrate_after = stored.bitrate_after ∙ bitrate-is _ loaded _ good.0 told _;
+      hypothesis_after = stored.hypothesis_after ∙ hypothesis-is _ loaded _ good.0 told _;
+      next_timeout_after = stored.next_timeout_after ∙ next-timeout-is _ loaded _ good.0 told _;
+    }
 
 pub returns : goal.returns
 returns c =
@@ -39,4 +51,10 @@ returns c =
     let good = both _ _ (was-yes q1.in_range.ensures q1.if-not-in_range.false) in
     let loaded = q1.load-lent.ensures in
     let told = called.report-called.ensures ∙ probed _ _ probe.probe_result-result.ensures in
-    (code_is _ loaded _ good.0 told c.store.type-inv stored.0, (stored.1.0 ∙ words-is _ loaded _ good.0 told, (stored.1.1.0 ∙ bitrate-is _ loaded _ good.0 told _, (stored.1.1.1.0 ∙ hypothesis-is _ loaded _ good.0 told _, stored.1.1.1.1 ∙ next-timeout-is _ loaded _ good.0 told _))))
+    record {
+      value = code_is _ loaded _ good.0 told c.store.type_inv stored.value;
+      link_after = stored.link_after ∙ words-is _ loaded _ good.0 told;
+      bitrate_after = stored.bitrate_after ∙ bitrate-is _ loaded _ good.0 told _;
+      hypothesis_after = stored.hypothesis_after ∙ hypothesis-is _ loaded _ good.0 told _;
+      next_timeout_after = stored.next_timeout_after ∙ next-timeout-is _ loaded _ good.0 told _;
+    }

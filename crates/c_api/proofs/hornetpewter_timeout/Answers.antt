@@ -12,7 +12,13 @@ use Rattle.c_api.proofs.hornetpewter_timeout.Goals as goal
 pub returns-then-not-in_range : goal.returns-then-not-in_range
 returns-then-not-in_range c =
     let no = call-out _ c.load-lent.ensures _ (was-no c.in_range.ensures c.if-not-in_range.true) in
-    (code-no OutOfRange no c.code.type-inv c.code.ensures, (words-kept _ _ OutOfRange no, (bitrate-no OutOfRange no _, (hypothesis-no OutOfRange no _, next-timeout-no OutOfRange no _))))
+    record {
+      value = code-no OutOfRange no c.code.type_inv c.code.ensures;
+      link_after = words-kept _ _ OutOfRange no;
+      bitrate_after = bitrate-no OutOfRange no _;
+      hypothesis_after = hypothesis-no OutOfRange no _;
+      next_timeout_after = next-timeout-no OutOfRange no _;
+    }
 
 pub returns-in-Some : goal.returns-in-Some
 returns-in-Some c =
@@ -21,7 +27,13 @@ returns-in-Some c =
     let good = both _ _ (was-yes q7.in_range.ensures q7.if-not-in_range.false) in
     let refused = timed-refused _ _ q (told q7.timeout-judged.ensures c.in-Some.is) ∙ sym (timeout-from-7 _ _ good.1) in
     let no = sym (reply-is _ q7.load-lent.ensures _ good.0 refused) in
-    (code-no q no c.code-in-Some.type-inv c.code-in-Some.ensures, (words-kept _ _ q no, (bitrate-no q no _, (hypothesis-no q no _, next-timeout-no q no _))))
+    record {
+      value = code-no q no c.code-in-Some.type_inv c.code-in-Some.ensures;
+      link_after = words-kept _ _ q no;
+      bitrate_after = bitrate-no q no _;
+      hypothesis_after = hypothesis-no q no _;
+      next_timeout_after = next-timeout-no q no _;
+    }
 
 pub returns : goal.returns
 returns c =
@@ -34,4 +46,10 @@ returns c =
     let none = told q7.timeout-judged.ensures update.in_default.is in
     let taken = timeout-from-7 _ _ good.1 ∙ sym (timed-taken _ _ none update.current_estimate.ensures update.handle_timeout-control.ensures) in
     let yes = shown-is after taken ∙ reply-is _ load.ensures _ good.0 refl in
-    (code-yes after yes, (c.store_timeout.ensures ∙ timeout-taken after taken _ ∙ words-is _ load.ensures _ good.0 refl, (tell.0 ∙ bitrate-yes after yes _, (tell.1.0 ∙ hypothesis-yes after yes _, tell.1.1 ∙ next-timeout-yes after yes _))))
+    record {
+      value = code-yes after yes;
+      link_after = c.store_timeout.ensures ∙ timeout-taken after taken _ ∙ words-is _ load.ensures _ good.0 refl;
+      bitrate_after = tell.bitrate_after ∙ bitrate-yes after yes _;
+      hypothesis_after = tell.hypothesis_after ∙ hypothesis-yes after yes _;
+      next_timeout_after = tell.next_timeout_after ∙ next-timeout-yes after yes _;
+    }

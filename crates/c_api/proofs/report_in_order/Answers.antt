@@ -13,7 +13,13 @@ returns-in-Some c =
     let q = c.in-Some.question in
     let first = judged-first _ _ c.judge_report-judged.ensures c.in-Some.is in
     let no = ap (λ (o : Outcome). o.reply) (in-order-refused _ _ first (number-above q)) in
-    (code-no q no c.code.type-inv c.code.ensures, (words-no q no _ _, (bitrate-no q no _, (hypothesis-no q no _, next-timeout-no q no _))))
+    record {
+      value = code-no q no c.code.type_inv c.code.ensures;
+      link_after = words-no q no _ _;
+      bitrate_after = bitrate-no q no _;
+      hypothesis_after = hypothesis-no q no _;
+      next_timeout_after = next-timeout-no q no _;
+    }
 
 pub returns : goal.returns
 returns c =
@@ -25,4 +31,10 @@ returns c =
     let after : Link = record { acked = told.judge_report-judged.result.acked; control = update.update-control.result } in
     let taken = in-order-taken _ _ (judged-first _ _ judged none) (judged-acked _ _ judged none) update.current_estimate.ensures update.update-control.ensures in
     let yes = shown-is after taken in
-    (code-yes after yes, (c.store.ensures ∙ words-taken after taken _, (tell.0 ∙ bitrate-yes after yes _, (tell.1.0 ∙ hypothesis-yes after yes _, tell.1.1 ∙ next-timeout-yes after yes _))))
+    record {
+      value = code-yes after yes;
+      link_after = c.store.ensures ∙ words-taken after taken _;
+      bitrate_after = tell.bitrate_after ∙ bitrate-yes after yes _;
+      hypothesis_after = tell.hypothesis_after ∙ hypothesis-yes after yes _;
+      next_timeout_after = tell.next_timeout_after ∙ next-timeout-yes after yes _;
+    }

@@ -8,8 +8,20 @@ pub returns-in-Refused : goal.returns-in-Refused
 returns-in-Refused c =
     let q = c.in-Refused.refusal in
     let no = ap reply c.in-Refused.is in
-    (code-no q no c.code.type-inv c.code.ensures, (words-no q no _ _, (bitrate-no q no _, (hypothesis-no q no _, next-timeout-no q no _))))
+    record {
+      value = code-no q no c.code.type_inv c.code.ensures;
+      link_after = words-no q no _ _;
+      bitrate_after = bitrate-no q no _;
+      hypothesis_after = hypothesis-no q no _;
+      next_timeout_after = next-timeout-no q no _;
+    }
 
 pub returns-in-Accepted : goal.returns-in-Accepted
 returns-in-Accepted c =
-    rw c.in-Accepted.is (refl, (c.store.ensures, (refl, (c.hypothesis_tag.ensures, refl))))
+    rw c.in-Accepted.is (record {
+      value = refl;
+      link_after = c.store.ensures;
+      bitrate_after = refl;
+      hypothesis_after = c.hypothesis_tag.ensures;
+      next_timeout_after = refl;
+    })

@@ -1,5 +1,4 @@
 -- What is left, compared too, gives the whole.
-use Prim.Native.Nat.{◌-◌}
 use native.Mathlib.Omega.{arith}
 use Rattle.control.specs.Control.{add_rtt}
 use Rattle.control.proofs.Laws.{fold-turn, fold_end}

@@ -1,25 +1,13 @@
 -- `feedback_lists::read_run` meets its contract. The loop's invariant: what is left to hand out, handed out too, gives the whole.
-use Rattle.std.proofs.Common.{◌∙◌, arith, to_z-of_z, w32}
+use Rattle.std.proofs.Common.{◌∙◌, to_z-of_z, w32}
 use borrow.Author.Rules.{sfits_of}
-use Rattle.feedback_lists.specs.Run.{running_none, running_more, running-all}
+use Rattle.feedback_lists.specs.Run.{running_more, running-all}
 use Rattle.feedback_lists.proofs.read_run.Goals as goal
-
-pub loop-i-init : goal.loop-i-init
-loop-i-init c = running_none _ _ _ _ _ _ _
 
 pub loop-i-preserved : goal.loop-i-preserved
 loop-i-preserved c =
     running_more _ _ _ _ _ _ _ c.loop-i.invariant c.loop-i-test.true
     (c.wrapping_add_u32-sum.ensures.value ∙ rw c.small_delta.ensures) (to_z-of_z (sfits_of {w = w32} {z = c.as_i32.result} c.as_i32.type_inv) ∙ c.as_i32.ensures)
-
-pub after_run-requires : goal.after_run-requires
-after_run-requires c = (omega arith, (omega arith, omega arith))
-
-pub shape_of-statuses : goal.shape_of-statuses
-shape_of-statuses c = c.loop-i.invariant.statuses-long
-
-pub shape_of-ticks : goal.shape_of-ticks
-shape_of-ticks c = c.loop-i.invariant.ticks-long
 
 pub returns : goal.returns
 returns c =

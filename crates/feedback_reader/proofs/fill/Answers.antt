@@ -1,5 +1,5 @@
 -- `feedback_reader::fill` meets its contract. The loop's invariant: what is found from here on is what is found from the first place on.
-use Rattle.std.proofs.Common.{◌+◌, ◌<◌, ◌≤◌, length, drop, sym, refl, ◌∙◌, arith, length-drop, ltb-false, ltb-true}
+use Rattle.std.proofs.Common.{◌+◌, ◌<◌, ◌≤◌, length, drop, sym, ◌∙◌, arith, length-drop, ltb-false, ltb-true}
 use Rattle.feedback_reader.specs.Filling.{filled-now, filled-end, filled-turn}
 use Rattle.feedback_reader.proofs.fill.Goals as goal
 use Rattle.feedback_reader.proofs.fill.Goals.{Else-cut_short}
@@ -8,20 +8,11 @@ use Rattle.feedback_reader.proofs.fill.Goals.{Else-cut_short}
 there : (c : Else-cut_short) → c.loop-left.next_chunk + 2 ≤ length c.args.message.now
 there c = ltb-false _ _ (sym c.cut_short.ensures ∙ c.if-cut_short.false)
 
-pub loop-left-init : goal.loop-left-init
-loop-left-init c = refl
-
 pub returns-then-cut_short : goal.returns-then-cut_short
 returns-then-cut_short c =
     let l : length c.args.message.now < c.loop-left.next_chunk + 2 = ltb-true _ _ (sym c.cut_short.ensures ∙ c.if-cut_short.true) in
     filled-end (drop c.loop-left.next_chunk c.args.message.now) _ _ _ (simp length-drop (omega arith))
     ∙ c.loop-left.invariant
-
-pub overflow_add-next_chunk : goal.overflow_add-next_chunk
-overflow_add-next_chunk c = omega (arith, there (goal.at.overflow_add-next_chunk c).Else-cut_short)
-
-pub loop-left-smaller : goal.loop-left-smaller
-loop-left-smaller c = omega (arith, there (goal.at.loop-left-smaller c).Else-cut_short)
 
 pub loop-left-preserved : goal.loop-left-preserved
 loop-left-preserved c =

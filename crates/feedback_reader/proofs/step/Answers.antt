@@ -1,5 +1,5 @@
 -- `feedback_reader::step` meets its contract: the tests on the way choose the definition's case.
-use Rattle.std.proofs.Common.{◌≡◌, ◌+◌, ltb, length, sym, ◌∙◌, arith, ltb-false, eq-eqb, ne_eqb}
+use Rattle.std.proofs.Common.{◌≡◌, ◌+◌, ltb, length, sym, eq-eqb, ne_eqb}
 use Rattle.feedback_reader.specs.Reader.{step, step_in, taken_if}
 use Rattle.feedback_reader.proofs.step.Goals as goal
 use Rattle.feedback_reader.proofs.step.Goals.{After-cut_short}
@@ -43,9 +43,6 @@ returns-then-cut_short c =
       c.if-cut_short.true,
     )
     c.none-then-cut_short.ensures
-
-pub take-requires : goal.take-requires
-take-requires c = (ltb-false _ _ (cut (goal.at.take-requires c).After-cut_short ∙ c.if-cut_short.false), (omega arith, omega arith))
 
 pub returns : goal.returns
 unfolding step step_in taken_if

@@ -4,21 +4,14 @@ use mathlib.Core.Bool.{Bool, true, false, ◌&&◌, not}
 use Prim.Native.Nat.{ℕ, ◌/◌, ◌%◌, ◌^◌}
 use native.Mathlib.Omega.{arith}
 use lib.Dec.{T, eqb}
-use lib.Ieee.{of_bits, of_fields, nan_bits, div}
-use borrow.Author.Tests.{eq-eqb, ne_eqb, eqb-true}
+use lib.Ieee.{nan_bits}
+use borrow.Author.Tests.{eq-eqb, eqb-true}
 use Rattle.float_bits.proofs.from_bits.Goals as goal
 
 -- exponent's field x and digits t of no NaN
 not-nan : (x t : ℕ) → (x ≡ 2047 → t ≡ 0) → (b : Bool) → eqb x 2047 ≡ b → T (not (eqb x 2047 && not (eqb t 0)))
 not-nan x t h true e = simp (e, eq-eqb _ _ (h (eqb-true x 2047 e))) tt
 not-nan x t h false e = simp e tt
-
-pub returns-then-n-gt9218868437227405312 : goal.returns-then-n-gt9218868437227405312
-unfolding of_bits of_fields div
-returns-then-n-gt9218868437227405312 c =
-    let x : c.args.n % 2 ^ 63 / 2 ^ 52 ≡ 2047 = omega arith in
-    let t : (c.args.n % 2 ^ 52 ≡ 0 → ⊥) = λ z. omega arith in
-    simp (x, ne_eqb (c.args.n % 2 ^ 52) 0 t)
 
 pub float_from_bits-result : goal.float_from_bits-result
 unfolding nan_bits

@@ -1,5 +1,4 @@
 -- What is left of the packets gives the estimator and the answer of all.
-use Prim.Native.Nat.{◌-◌}
 use native.Mathlib.Omega.{arith}
 use mathlib.Core.Path.{refl, ◌∙◌}
 use Rattle.link.proofs.Laws.{left-turn, remotes-end, sizes-end}

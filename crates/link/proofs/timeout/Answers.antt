@@ -10,14 +10,12 @@ returns-then-not-in_range c = c.refused.ensures ∙ sym (timeout-1 _ _ (was-no c
 
 pub returns-in-Some : goal.returns-in-Some
 returns-in-Some c =
-    let q7 = c in
     c.refused-in-Some.ensures
-    ∙ timed-refused _ _ c.in-Some.refusal (told q7.timeout-judged.ensures c.in-Some.is)
-    ∙ sym (timeout-from-7 _ _ (was-yes q7.in_range.ensures q7.if-not-in_range.false))
+    ∙ timed-refused _ _ c.in-Some.refusal (told c.timeout-judged.ensures c.in-Some.is)
+    ∙ sym (timeout-from-7 _ _ (was-yes c.in_range.ensures c.if-not-in_range.false))
 
 pub returns : goal.returns
 returns c =
-    let q7 = c in
     c.accepted.ensures
-    ∙ timed-taken _ _ (told q7.timeout-judged.ensures c.in_default.is) c.current_estimate.ensures c.handle_timeout-timed_out.ensures
-    ∙ sym (timeout-from-7 _ _ (was-yes q7.in_range.ensures q7.if-not-in_range.false))
+    ∙ timed-taken _ _ (told c.timeout-judged.ensures c.in_default.is) c.current_estimate.ensures c.handle_timeout-timed_out.ensures
+    ∙ sym (timeout-from-7 _ _ (was-yes c.in_range.ensures c.if-not-in_range.false))

@@ -1,6 +1,5 @@
 -- The floats so far, with the rest of the run written too, are the whole run.
 use mathlib.Core.Path.{refl, sym, ◌∙◌}
-use Prim.Native.Nat.{◌-◌}
 use native.Mathlib.Nat.{add-zero}
 use native.Mathlib.Omega.{arith}
 use lib.Ieee.{binary64, of_bits}

@@ -4,7 +4,6 @@ use Rattle.link_words.proofs.store.Goals as goal
 
 pub returns : goal.returns
 returns c =
-    let size = c in
-    let a = size.args in
+    let a = c.args in
     let control = c.store_control.ensures in
-    rw (control.0, c.store_acked.ensures) (words-stored (record { acked = a.acked; control = a.control }) control.1 a.words.now size.sized.ensures)
+    rw (control.words_after, c.store_acked.ensures) (words-stored (record { acked = a.acked; control = a.control }) control.c_len a.words.now c.sized.ensures)

@@ -6,4 +6,9 @@ pub returns : goal.returns
 returns c =
     let d = c.args.c in
     let trendline = c.store_trendline.ensures in
-    (rw (c.store_round_trip.ensures, c.store_rate_control.ensures, trendline.0, c.store_groups.ensures) (control-stored d trendline.1 _), length-control d trendline.1)
+    record {
+      words_after =
+          rw (c.store_round_trip.ensures, c.store_rate_control.ensures, trendline.words_after, c.store_groups.ensures)
+          (control-stored d trendline.t_len _);
+      c_len = length-control d trendline.t_len;
+    }

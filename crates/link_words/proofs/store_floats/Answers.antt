@@ -1,6 +1,5 @@
 -- The words so far, with the rest of the floats written too, are the words with all of them.
 use mathlib.Core.Path.{refl, sym, ◌∙◌}
-use Prim.Native.Nat.{◌-◌}
 use native.Mathlib.Nat.{add-zero}
 use native.Mathlib.Omega.{arith}
 use borrow.Author.Rules.{rules}
@@ -14,10 +13,13 @@ pub loop-i-preserved : goal.loop-i-preserved
 loop-i-preserved c =
     let l = c.loop-i in
     let a = c.args in
-    (omega arith, l.invariant.1, rw c.to_bits.ensures (write-turn l.words a.t3 a.at l.i _ (omega (arith, l.invariant.1)) ∙ l.invariant.2))
+    (omega arith, l.invariant.1, rw c.to_bits.ensures (write-turn l.words a.floats a.at l.i _ (omega (arith, l.invariant.1)) ∙ l.invariant.2))
 
 pub returns : goal.returns
 returns c =
     let l = c.loop-i in
     let a = c.args in
-    (sym (write-end l.words a.t3 a.at l.i (omega (arith, l.invariant.1))) ∙ l.invariant.2, l.invariant.1)
+    record {
+      words_after = sym (write-end l.words a.floats a.at l.i (omega (arith, l.invariant.1))) ∙ l.invariant.2;
+      floats_len = l.invariant.1;
+    }

@@ -7,4 +7,7 @@ returns c =
     let times = c.store_floats.ensures in
     let delays = c.store_floats-2.ensures in
     let h = c.args.h in
-    (rw (delays.0, times.0) (history-stored h times.1 delays.1 _), length-history h times.1 delays.1)
+    record {
+      words_after = rw (delays.words_after, times.words_after) (history-stored h times.floats_len delays.floats_len _);
+      h_len = length-history h times.floats_len delays.floats_len;
+    }

@@ -6,4 +6,9 @@ pub returns : goal.returns
 returns c =
     let t = c.args.t in
     let history = c.store_history.ensures in
-    (rw (c.store_overuse.ensures, c.store_delays.ensures, history.0, c.instant_ns.ensures, c.instant_tag.ensures) (trendline-stored t history.1 _), length-trendline t history.1)
+    record {
+      words_after =
+          rw (c.store_overuse.ensures, c.store_delays.ensures, history.words_after, c.instant_ns.ensures, c.instant_tag.ensures)
+          (trendline-stored t history.h_len _);
+      t_len = length-trendline t history.h_len;
+    }

@@ -1,13 +1,8 @@
 -- `status_chunk::delta_bytes` meets its contract: by the kind of chunk.
 use mathlib.Core.Path.{◌∙◌}
 use native.Mathlib.Omega.{arith}
-use Rattle.status_chunk.specs.Laws.{take-symbols, run-bytes, count-one-bit, delta-bytes-most}
+use Rattle.status_chunk.specs.Laws.{take-symbols, run-bytes, count-one-bit}
 use Rattle.status_chunk.proofs.delta_bytes.Goals as goal
-
-pub overflow_mul-result : goal.overflow_mul-result
-overflow_mul-result c =
-    rw (run-bytes c.args.chunk 0 c.covered-all.result c.if-chunk-lt-STATUS_VECTOR.true)
-    (omega (arith, delta-bytes-most c.args.chunk 0 c.covered-all.result (omega arith)))
 
 pub returns-then-chunk-lt-STATUS_VECTOR : goal.returns-then-chunk-lt-STATUS_VECTOR
 returns-then-chunk-lt-STATUS_VECTOR c = run-bytes c.args.chunk 0 c.covered-all.result c.if-chunk-lt-STATUS_VECTOR.true ∙ simp (take-symbols, c.covered-all.ensures)

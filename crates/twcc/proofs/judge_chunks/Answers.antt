@@ -14,9 +14,6 @@ there c = omega arith
 few : (c : After-covered-left) → c.delta_bytes-bytes.result ≤ 3 * c.covered-left.result
 few c = omega (arith, take-bytes-most c.read_u16-chunk.result c.loop-left.left (omega arith))
 
-pub loop-left-init : goal.loop-left-init
-loop-left-init c = (omega arith, (omega arith, refl))
-
 pub returns-then-message-at-lt2 : goal.returns-then-message-at-lt2
 returns-then-message-at-lt2 c =
     chunks-short _ _ (drop c.loop-left.at c.args.message.now) _ (simp length-drop (omega arith)) c.loop-left-test.true

@@ -13,4 +13,4 @@ returns-in-None c = simp (← c.filled.ensures, c.in-None.is)
 
 pub returns-else-receive_time-last : goal.returns-else-receive_time-last
 unfolding update
-returns-else-receive_time-last c = simp (← c.filled-in-Some.ensures, ← c.advance-advanced.ensures, ← c.window_length.ensures, le-ltb _ _ c.if-receive_time-last.false, c.in-Some.is)
+returns-else-receive_time-last c = simp (le-ltb _ _ c.if-receive_time-last.false, c.in-Some.is) cc

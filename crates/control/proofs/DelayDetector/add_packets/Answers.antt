@@ -1,5 +1,5 @@
 -- What is left, added too, gives the whole.
-use Rattle.std.proofs.Common.{◌≡◌, ◌-◌, arith}
+use Rattle.std.proofs.Common.{◌≡◌, arith}
 use Rattle.control.specs.Control.{add_packet, observe}
 use Rattle.control.proofs.Laws.{fold-turn, fold_end}
 use Rattle.control.proofs.DelayDetector.add_packets.Goals as goal

@@ -13,7 +13,8 @@ use Rattle.float_order.specs.Range.{nat, in-finite}
 use Rattle.float_order.specs.Interval.{floats}
 use Rattle.float_order.specs.Plus.{plus, plus_none, plus-more, plus-mono, plus-trans}
 use Rattle.rate_control.specs.RateControl as Rate
-use Rattle.rate_control.specs.Laws.{NotDecrease, Sound, estimate, increase-high, normal-holds, normal-increases, normal-state, set_probe_result-sound, update-sound}
+use Rattle.rate_control.specs.Laws.{NotDecrease, Sound, estimate, normal-holds, normal-increases, normal-state, set_probe_result-sound}
+use Rattle.rate_control.proofs.Laws.{increase-high, update-sound}
 use Rattle.rate_control.specs.declared.Signal.TheVariants.{Normal}
 use Rattle.rate_control.specs.declared.State.{State}
 use Rattle.rate_control.specs.declared.State.TheVariants.{Increase, Hold, Decrease}

@@ -10,6 +10,7 @@ use Rattle.recovery.specs.Recovery.{Change, Finite, after}
 use Rattle.recovery.specs.Recovery.Change.{nothing}
 use Rattle.recovery.specs.Runs as Runs
 use Rattle.recovery.specs.Runs.{Machine}
+use Rattle.recovery.proofs.Runs.{holds}
 use Rattle.acked_bitrate_estimator.specs.Laws.{ValidEstimate}
 use Rattle.control.specs.Control as Control
 use Rattle.control.specs.Control.{get_smoothed_rtt, handle_timeout, rate_after, trendline_hypothesis_valid, update_estimate, wait, with_packets, with_rate}
@@ -102,13 +103,13 @@ handed-is l (k ∷ ks) = rw (handed-is (call l k).link ks)
 pub demand-3 : Demand3
 demand-3 start initial window l e calls =
     let g = opening-good start initial window l e in
-    let whole = Runs.holds machine keeps l g calls in
+    let whole = holds machine keeps l g calls in
     record {
       estimate-in = rw (run_is l calls) whole.estimate-in;
       threshold-in = rw (run_is l calls) whole.threshold-in;
       recovery = λ before next rest p n R f z s u.
           rw (run_is l before, run_is l (before ++ next))
-          ((Runs.holds machine keeps l g (before ++ next)).recovery before next refl n R f
+          ((holds machine keeps l g (before ++ next)).recovery before next refl n R f
           (rw (run_is l before, handed-is (Runs.run machine l before) next) at s)
           (rw (run_is l before, handed-is (Runs.run machine l before) next) at u));
     }

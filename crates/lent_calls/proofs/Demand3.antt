@@ -20,10 +20,10 @@ use Rattle.link_runs.specs.Statement.{Call, call, run, threshold}
 use Rattle.link_runs.specs.Statement.Call.{report, timeout}
 use Rattle.link_runs.specs.Answered.{Answered, report-answered, timeout-answered}
 use Rattle.link_runs.specs.Answered.Answered.{turned_down, taken}
-use Rattle.link_runs.specs.Demand3.{demand-3}
+use Rattle.link_runs.proofs.Demand3.{demand-3}
 use Rattle.link_runs.specs.InRange.{reached-in-range}
 use Rattle.lent_calls.specs.LentCalls.{after, open_code, open_words, read, reply_to, stored, words_after}
-use Rattle.lent_calls.specs.Held.{call-held, opened-held}
+use Rattle.lent_calls.proofs.Held.{call-held, opened-held}
 use Rattle.lent_calls.specs.Statement.{CallsHeld, Demand3, IsRun, RangeAndRecovery, RunsOfTheLink, estimate_read, handed_all, run_words, threshold_read}
 
 -- a timeout changes the rate control and the next timeout only

@@ -17,8 +17,8 @@ use Rattle.link_runs.specs.Statement.{Call, call, threshold}
 use Rattle.link_runs.specs.Statement.Call.{report, timeout}
 use Rattle.link_runs.specs.Answered.{Answered, report-answered, timeout-answered}
 use Rattle.link_runs.specs.Answered.Answered.{turned_down, taken}
-use Rattle.lent_calls.specs.Demand3.{timeout-changes}
-use Rattle.lent_calls.specs.Held.{timed-out-held, updated-held}
+use Rattle.lent_calls.proofs.Demand3.{timeout-changes}
+use Rattle.lent_calls.proofs.Held.{timed-out-held, updated-held}
 use Rattle.lent_calls.specs.LentCalls.{after, read, reply_to, stored, threshold_after, words_after}
 use Rattle.lent_calls.specs.Statement.{CallHeld, CallsOfTheLink, Question1, Refusals, SameAnswers, UnreadWords, run_words, threshold_read}
 

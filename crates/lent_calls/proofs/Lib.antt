@@ -1,0 +1,3 @@
+pub mod AnyWords
+pub mod Demand3
+pub mod Held

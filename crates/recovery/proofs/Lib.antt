@@ -1,0 +1,2 @@
+pub mod RecoveryProof
+pub mod Runs
