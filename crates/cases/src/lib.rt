@@ -114,6 +114,13 @@ fn print_line(rt: &impl Print, name: &str, a: u64, b: u64) -> io::Result<()> {
     println!(rt; "{name} {a} {b}")
 }
 
+// Room for so many bytes. A caller knows its length by the contract, and need not count a long array.
+pub fn zeros<const N: usize>() -> [u8; N]
+    ensures { N ≡ length result }
+{
+    [0; N]
+}
+
 // Reads until the bytes are full or the input ends, and says how many it put at their start.
 pub fn read_full(input: &mut impl Read, bytes: &mut [u8]) -> io::Result<usize>
     ensures { IfOk result (λ n. n ≤ length bytes.new) }

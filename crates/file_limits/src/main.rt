@@ -79,8 +79,8 @@ fn replay(input: &mut impl Read, file: &mut [u8], out: &mut [u8]) -> io::Result<
 }
 
 fn main(rt: HostRuntime) -> io::Result<()> {
-    let mut file = [0u8; ROOM];
-    let mut out = [0u8; ROOM];
+    let mut file = cases::zeros::<ROOM>();
+    let mut out = cases::zeros::<ROOM>();
     let counts = replay(&mut rt.reader(), &mut file, &mut out)?;
     counts.print(&rt, "file_limits")?;
     counts.print_first(&rt)
