@@ -1,5 +1,5 @@
 -- `at_limits::same` ends: each turn leaves one word less.
-use Prim.Native.Nat.{◌≤◌, ◌-◌}
+use Rattle.std.proofs.Common.{◌≤◌, ◌-◌}
 use Rattle.at_limits.proofs.same.Given as goal
 
 abbrev pub invariant-loop-i : goal.invariant-loop-i

@@ -1,5 +1,5 @@
 -- `lent_replay::same` ends: each turn leaves one word less.
-use Prim.Native.Nat.{◌≤◌, ◌-◌}
+use Rattle.std.proofs.Common.{◌≤◌, ◌-◌}
 use Rattle.lent_replay.proofs.same.Given as goal
 
 abbrev pub invariant-loop-i : goal.invariant-loop-i

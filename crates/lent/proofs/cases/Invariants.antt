@@ -1,9 +1,0 @@
--- `lent::cases` ends: a line has at most 1,000 cases.
-use Rattle.std.proofs.Common.{◌-◌, ◌≤◌}
-use Rattle.lent.proofs.cases.Given as goal
-
-abbrev pub invariant-loop : goal.invariant-loop
-invariant-loop l = l.counter ≤ 1000
-
-abbrev pub decreases-loop : goal.decreases-loop
-decreases-loop l = 1000 - l.counter
