@@ -1,7 +1,6 @@
 -- `file_limits::main` lends two arrays as slices: each is as long as it was made, which a lemma says without computing it.
-use Prim.Native.Nat.{ℕ}
-use mathlib.Core.Path.{sym}
-use lib.ListN.{length-replicate}
+use Rattle.std.proofs.Common.{ℕ, sym}
+use Rattle.std.proofs.lemmas.List.{length-replicate}
 use Rattle.file_limits.proofs.main.Goals as goal
 
 pub slice_bounds-replay-end : goal.slice_bounds-replay-end

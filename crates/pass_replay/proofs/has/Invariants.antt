@@ -1,6 +1,5 @@
 -- `pass_replay::has` ends: each turn leaves one byte less.
-use Prim.Native.Nat.{◌+◌, ◌-◌, ◌≤◌}
-use lib.ListN.{length}
+use Rattle.std.proofs.Common.{◌+◌, ◌-◌, ◌≤◌, length}
 use Rattle.pass_replay.proofs.has.Given as goal
 
 abbrev pub invariant-loop-i : goal.invariant-loop-i

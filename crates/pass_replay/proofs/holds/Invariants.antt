@@ -1,9 +1,9 @@
 -- `pass_replay::holds` ends: each turn leaves a part less.
-use Prim.Native.Nat.{◌-◌, ◌≤◌}
+use Rattle.std.proofs.Common.{◌-◌, ◌≤◌}
 use Rattle.pass_replay.proofs.holds.Given as goal
 
 abbrev pub invariant-loop-at : goal.invariant-loop-at
-invariant-loop-at l = l.at ≤ l.bytes
+invariant-loop-at g l = l.at ≤ l.bytes
 
 abbrev pub decreases-loop-at : goal.decreases-loop-at
-decreases-loop-at l = l.bytes - l.at
+decreases-loop-at g l = l.bytes - l.at

@@ -1,7 +1,5 @@
 -- `pass_replay::unwrite` ends: each turn leaves one byte less.
-use Prim.Native.Nat.{◌-◌, ◌≤◌}
-use mathlib.Core.Path.{◌≡◌}
-use lib.ListN.{length}
+use Rattle.std.proofs.Common.{◌≡◌, ◌-◌, ◌≤◌, length}
 use Rattle.pass_replay.proofs.unwrite.Given as goal
 
 abbrev pub invariant-loop-i : goal.invariant-loop-i

@@ -1,5 +1,5 @@
-use Prim.Native.Nat.{◌-◌}
-use lib.ListN.{length}
+-- `pass_replay::unwritten` ends: each turn leaves one byte less.
+use Rattle.std.proofs.Common.{◌-◌, length}
 use Rattle.pass_replay.proofs.unwritten.Given as goal
 
 abbrev pub invariant-loop-i : goal.invariant-loop-i
