@@ -13,7 +13,6 @@ use mir.Val.{SFits, of_z, to_z}
 use Rattle.bool_laws.specs.Bools.{both}
 use Rattle.questions.specs.Questions.{number}
 use Rattle.questions.specs.declared.Refusal.{Refusal}
-use Rattle.questions.specs.declared.Refusal.TheVariants as Refusal
 use Rattle.link_state.specs.State.{in_range}
 use Rattle.link_state.specs.declared.Link.{Link}
 use Rattle.link_words.specs.LinkWords.{formed, hypothesis_tag, of_words, timeout_words, to_words}

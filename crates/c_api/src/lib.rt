@@ -1,5 +1,7 @@
 // What programs in C or Rust call, by the exports of `c_api_c`. A slice is a pointer and a length; a link is 100 words that the caller lends (crates/link_words). A call returns 0, or the opposite of the number of the question that
 // turned it down; then every lent place is as it was.
+#![tactic(auto)]
+
 ghost use Rattle.std.specs.Prelude.{◌&&◌, ◌≡◌, pos, neg_ℤ};
 ghost use Rattle.questions.specs.Questions.{number, report-of};
 ghost use Rattle.link_state.specs.State.{in_range};

@@ -1,5 +1,6 @@
 // What programs in C or Rust call for a link's calls: each export is the function of that name of `c_api`. A slice is a pointer and a length.
 #![tactic(auto)]
+
 ghost use Rattle.std.specs.Prelude.{◌≡◌};
 ghost use Rattle.questions.specs.Questions.{report-of};
 ghost use Rattle.link.specs.Link as Calls;
@@ -43,7 +44,20 @@ pub extern "C" fn hornetpewter_report(
     ensures hypothesis_after { hypothesis.new ≡ Lent.hypothesis_after (Lent.reply_to link.old (report (report-of sequences.now sizes.now sends.now remotes.now receives.now (Lent.probe_result has_probe probe) moment))) hypothesis.old }
     ensures next_timeout_after { next_timeout.new ≡ Lent.next_timeout_after (Lent.reply_to link.old (report (report-of sequences.now sizes.now sends.now remotes.now receives.now (Lent.probe_result has_probe probe) moment))) next_timeout.old }
 {
-    c_api::hornetpewter_report(link, sequences, sizes, sends, remotes, receives, has_probe, probe, moment, bitrate, hypothesis, next_timeout)
+    c_api::hornetpewter_report(
+        link,
+        sequences,
+        sizes,
+        sends,
+        remotes,
+        receives,
+        has_probe,
+        probe,
+        moment,
+        bitrate,
+        hypothesis,
+        next_timeout,
+    )
 }
 
 #[unsafe(no_mangle)]

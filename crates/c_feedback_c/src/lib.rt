@@ -1,5 +1,6 @@
 // What programs in C or Rust call for reading feedback messages: each export is the function of that name of `c_feedback`. A slice is a pointer and a length.
 #![tactic(auto)]
+
 ghost use Rattle.std.specs.Prelude.{◌≡◌, pos, length};
 ghost use Rattle.twcc.specs.Feedback.{judge};
 ghost use Rattle.feedback_reader.specs.Reader.{start};
@@ -23,7 +24,14 @@ pub extern "C" fn hornetpewter_feedback_start(
     ensures reference_time_after { reference_time.new ≡ CFeedback.reference_time (judge message.now) reference_time.old }
     ensures feedback_count_after { feedback_count.new ≡ CFeedback.feedback_count (judge message.now) feedback_count.old }
 {
-    c_feedback::hornetpewter_feedback_start(message, reader, base_seq, status_count, reference_time, feedback_count)
+    c_feedback::hornetpewter_feedback_start(
+        message,
+        reader,
+        base_seq,
+        status_count,
+        reference_time,
+        feedback_count,
+    )
 }
 
 // Hands out the next packets, as many as both lists have room for, and tells how many: a packet's status, 1 received and 0 not, its ticks, 0 where it was not received, and the sequence

@@ -1,4 +1,6 @@
 // What programs in C or Rust call, by the exports of `c_pass_file_c`. A slice is a pointer and a length.
+#![tactic(auto)]
+
 ghost use Rattle.std.specs.Prelude.{◌≡◌, length};
 ghost use Rattle.pass_records.specs.PassRecords.{most_records};
 ghost use Rattle.pass_file.specs.PassFile as PassFile;

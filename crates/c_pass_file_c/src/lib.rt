@@ -1,5 +1,6 @@
 // What programs in C or Rust call for the listing of a pass file: each export is the function of that name of `c_pass_file`. A slice is a pointer and a length.
 #![tactic(auto)]
+
 ghost use Rattle.std.specs.Prelude.{◌≡◌, length};
 ghost use Rattle.pass_records.specs.PassRecords.{most_records};
 ghost use Rattle.pass_file.specs.PassFile as PassFile;

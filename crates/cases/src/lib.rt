@@ -90,28 +90,29 @@ impl Counts {
     }
 
     // Prints a line: how many cases, how many of them differ.
-    pub fn print(self, rt: &impl Print, name: &str) -> io::Result<()> {
+    pub fn print(self, rt: &impl Print, name: &[u8]) -> io::Result<()> {
         print_line(rt, name, self.cases, self.wrong)
     }
 
     // Prints which case is the first that differs, if one does.
     pub fn print_first(self, rt: &impl Print) -> io::Result<()> {
         if self.wrong != 0 {
-            print_line(rt, "first", wrapping_add_u64(self.agreed, 1), 0)?;
+            print_line(rt, b"first", wrapping_add_u64(self.agreed, 1), 0)?;
         }
         Ok(())
     }
 
     // Prints all counts.
-    pub fn print_all(self, rt: &impl Print, name: &str) -> io::Result<()> {
+    pub fn print_all(self, rt: &impl Print, name: &[u8]) -> io::Result<()> {
         self.print(rt, name)?;
-        print_line(rt, "packets", self.packets, 0)?;
+        print_line(rt, b"packets", self.packets, 0)?;
         self.print_first(rt)
     }
 }
 
-fn print_line(rt: &impl Print, name: &str, a: u64, b: u64) -> io::Result<()> {
-    println!(rt; "{name} {a} {b}")
+fn print_line(rt: &impl Print, name: &[u8], a: u64, b: u64) -> io::Result<()> {
+    rt.write_all(name)?;
+    println!(rt; " {a} {b}")
 }
 
 // Room for so many bytes. A caller knows its length by the contract, and need not count a long array.

@@ -227,5 +227,5 @@ fn replay(input: &mut impl Read, bytes: &mut [u8]) -> io::Result<Counts> {
 fn main(rt: HostRuntime) -> io::Result<()> {
     let mut bytes = [0u8; ROOM];
     let counts = replay(&mut rt.reader(), &mut bytes)?;
-    counts.print_all(&rt, "feedback")
+    counts.print_all(&rt, b"feedback")
 }

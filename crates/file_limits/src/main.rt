@@ -82,6 +82,6 @@ fn main(rt: HostRuntime) -> io::Result<()> {
     let mut file = cases::zeros::<ROOM>();
     let mut out = cases::zeros::<ROOM>();
     let counts = replay(&mut rt.reader(), &mut file, &mut out)?;
-    counts.print(&rt, "file_limits")?;
+    counts.print(&rt, b"file_limits")?;
     counts.print_first(&rt)
 }

@@ -38,7 +38,7 @@ stalled x d h k = absorb h k (unfold floats in tt)
 -- a rate of 10 ^ 10 at most gains 999 at each step of 1,000
 gained_lem : (x y : Float) → In (nat 40000) (nat 10000000000) x → T (le (nat 1000) y)
     → T (le (plus x 999)
-        (add binary64 x y))
+    (add binary64 x y))
 gained_lem x y h k = climb x 10000000000 999 (omega arith) (in-wider h (unfold floats in tt)) y k
 
 pub gained : (x y : Float) → In (nat 40000) (nat 10000000000) x → T (le (nat 1000) y) → T (le (plus x 999) (add binary64 x y))

@@ -68,7 +68,7 @@ fn compare(rt: &(impl Files + Print), name: &str, f: u8, size: usize) -> io::Res
         }
         counts = counts.counted(0, agrees(f, size, &record));
     }
-    counts.print(rt, name)
+    counts.print(rt, name.as_bytes())
 }
 
 fn main(rt: HostRuntime) -> io::Result<()> {

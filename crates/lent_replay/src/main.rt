@@ -186,5 +186,5 @@ fn main(rt: HostRuntime) -> io::Result<()> {
             done.run(&mut input, i)?
         };
     }
-    done.counts.print_all(&rt, "lent")
+    done.counts.print_all(&rt, b"lent")
 }

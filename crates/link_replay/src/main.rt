@@ -218,5 +218,5 @@ fn main(rt: HostRuntime) -> io::Result<()> {
         }
         done = done.run(&mut lists, Case::read(&bytes));
     }
-    done.counts.print_all(&rt, "link")
+    done.counts.print_all(&rt, b"link")
 }

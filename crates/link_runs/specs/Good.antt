@@ -32,7 +32,7 @@ use Rattle.control.specs.Control.{detector, get_smoothed_rtt, handle_timeout, ra
 use Rattle.control.specs.Laws.{KeptRtt, most_round_trip, timeout-none, timeout-report, timeout-timeout, update-kept}
 use Rattle.control.specs.declared.DelayController.{DelayController}
 use Rattle.receive_order.specs.Lists.{All}
-use Rattle.questions.specs.Questions.{Report, all_at_most, first_no, in_order, instants_in, moment_in, most_instant, of_opening, of_report, of_timeout, ordered, probe_in, window_in}
+use Rattle.questions.specs.Questions.{Report, all_at_most, first_no, instants_in, moment_in, most_instant, of_opening, of_report, of_timeout, ordered, probe_in, window_in}
 use Rattle.questions.specs.Laws.{lengths}
 use Rattle.link_state.specs.declared.Link.{Link}
 use Rattle.link.specs.Link.{Outcome, accepted_with, acknowledge, new, opened, opening, report_questions, started_unless, sums_in, timed_out, timeout_questions, updated}

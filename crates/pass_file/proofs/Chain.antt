@@ -1,16 +1,15 @@
 -- What the proofs of the listing cite: the calls that the waiting packets make, and the lines that are left along the chain.
 use mathlib.Core.Path.{◌≡◌, refl, sym, ap, subst, ◌∙◌}
-use Prim.Native.Nat.{ℕ, zero, suc, ◌+◌, ◌-◌, ◌≤◌, ◌<◌, min}
+use Prim.Native.Nat.{ℕ, zero, suc, ◌+◌, ◌-◌, ◌≤◌, ◌<◌}
 use mathlib.Core.Bool.{Bool, true, false, cond, and-false}
-use mathlib.Core.List.{List, [], ◌∷◌, ◌++◌, map, map-append}
+use mathlib.Core.List.{List, [], ◌∷◌, ◌++◌, map}
 use native.Mathlib.Nat.{sub-zero}
 use native.Mathlib.Omega.{arith}
-use lib.Dec.{eqb, ltb, leb}
-use lib.ListN.{length, set, take, drop, length-append, length-set, length-take, length-map}
-use lib.Seq.{sets, length-sets, length-take-le, sets-eq, set_out, take_all, take-append-le, take-nil, take-suc-set}
-use borrow.Author.Tests.{eq-eqb, ne_eqb, lt-leb, leb-true, leb-false, ltb-true, ltb-false}
+use lib.Dec.{eqb, leb}
+use lib.ListN.{length, set, take, drop, length-append, length-map}
+use lib.Seq.{sets, length-sets, length-take-le, sets-eq, take_all}
+use borrow.Author.Tests.{eq-eqb, ne_eqb, lt-leb, leb-true, leb-false}
 use Rattle.acked_bitrate_estimator.specs.declared.AckedBitrateEstimator.{AckedBitrateEstimator}
-use Rattle.bool_laws.specs.Bools.{cases}
 use Rattle.bandwidth.specs.declared.BandwidthUsage.{BandwidthUsage}
 use Rattle.bandwidth.specs.declared.Bitrate.{Bitrate}
 use Rattle.bandwidth.specs.declared.OptionBitrate.{OptionBitrate}

@@ -8,7 +8,6 @@ use native.Mathlib.Omega.{arith}
 use lib.ListN.{length, length-take, take}
 use Rattle.acked_bitrate_estimator.specs.declared.AckedBitrateEstimator.{AckedBitrateEstimator}
 use Rattle.bandwidth.specs.declared.OptionBitrate.{OptionBitrate}
-use Rattle.control.specs.declared.DelayController.{DelayController}
 use Rattle.receive_order.specs.ReceiveOrder.{most_packets, put_in_order}
 use Rattle.receive_order.specs.Laws.{put_front, put-length}
 use Rattle.questions.specs.Questions.{Report, in_order, lists_in, number_or0}

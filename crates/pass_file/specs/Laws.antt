@@ -1,5 +1,5 @@
 -- Laws of a listing: it is the text of one run of a link from an accepted opening, line after line, and how long it is.
-use Rattle.std.specs.Prelude.{ℕ, zero, suc, ◌+◌, ◌*◌, ◌^◌, ◌≤◌, ◌≡◌, eqb, length}
+use Rattle.std.specs.Prelude.{ℕ, zero, suc, ◌*◌, ◌^◌, ◌≤◌, ◌≡◌, eqb, length}
 use Rattle.std.proofs.Math.Path.{refl, sym}
 use mathlib.Core.List.{List, [], ◌∷◌, ◌++◌, map, append_assoc}
 use Rattle.std.proofs.Common.{arith, length-append}
@@ -23,7 +23,6 @@ use Rattle.pass_records.specs.Laws.{Rising, least-enough, linked-file}
 use Rattle.pass_records.specs.declared.Judged.{Judged}
 use Rattle.pass_records.specs.declared.Judged.TheVariants.{Linked, BadLength, BadKind, BadNext, ShortOutput}
 use Rattle.listing_line.proofs.Lines.{line-short}
-use Rattle.pass_file.specs.PassFile as PassFile
 use Rattle.pass_file.specs.PassFile.{Numbered, answer_unless, calls, first, letter, lines, list, listed, listing, shown}
 
 -- ---- the length of a line

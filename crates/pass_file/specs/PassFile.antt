@@ -19,7 +19,6 @@ use Rattle.pass_records.specs.PassRecords as Records
 use Rattle.pass_records.specs.PassRecords.{record_at, kind, flag, size, sequence, send, remote, receive, probe_bits, chain, judge, number}
 use Rattle.listing_line.specs.ListingLine.{line}
 use Rattle.pass_file.specs.declared.Listed.{Listed}
-use Rattle.pass_file.specs.declared.Listed.TheVariants as Listed
 
 -- the link that the calls are put to: at 1,000,000 bps, with windows of 500 and 150 ms
 abbrev pub first : Link

@@ -1,4 +1,6 @@
 // Document 01, pass file and program: the listing of a pass file, a line for each call of a link, written into a lent buffer.
+#![tactic(auto)]
+
 ghost use Rattle.std.specs.Prelude.{◌≡◌, ◌≤◌, length, take};
 ghost use Rattle.pass_records.specs.PassRecords as Records;
 ghost use Rattle.pass_records.specs.Laws.{OnChain};

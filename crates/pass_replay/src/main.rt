@@ -156,5 +156,5 @@ fn main(rt: HostRuntime) -> io::Result<()> {
     let mut file = cases::zeros::<ROOM>();
     let mut out = cases::zeros::<ROOM>();
     let counts = replay(&mut rt.reader(), &mut file, &mut out)?;
-    counts.print_all(&rt, "pass_file")
+    counts.print_all(&rt, b"pass_file")
 }

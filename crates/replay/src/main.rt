@@ -64,14 +64,14 @@ impl Modules {
     fn print(self, rt: &impl Print) -> io::Result<()> {
         let c = self.counts;
         let all = self.all;
-        c[0].print(rt, "time")?;
-        c[1].print(rt, "average")?;
-        c[2].print(rt, "acked_bitrate_estimator")?;
-        c[3].print(rt, "arrival_group")?;
-        c[4].print(rt, "trendline")?;
-        c[5].print(rt, "rate_control")?;
-        c[6].print(rt, "control")?;
-        c[7].print(rt, "bandwidth")?;
+        c[0].print(rt, b"time")?;
+        c[1].print(rt, b"average")?;
+        c[2].print(rt, b"acked_bitrate_estimator")?;
+        c[3].print(rt, b"arrival_group")?;
+        c[4].print(rt, b"trendline")?;
+        c[5].print(rt, b"rate_control")?;
+        c[6].print(rt, b"control")?;
+        c[7].print(rt, b"bandwidth")?;
         all.print_first(rt)
     }
 }

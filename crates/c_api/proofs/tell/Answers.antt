@@ -6,7 +6,7 @@ use Rattle.c_api.proofs.tell.Goals as goal
 
 pub returns : goal.returns
 returns c = record {
-      bitrate_after = ap (λ (r : Bitrate). r.0) c.last_estimate-rate.ensures;
-      hypothesis_after = c.hypothesis_tag.ensures ∙ ap hypothesis_tag c.hypothesis.ensures;
-      next_timeout_after = c.poll_timeout.ensures;
-    }
+  bitrate_after = ap (λ (r : Bitrate). r.0) c.last_estimate-rate.ensures;
+  hypothesis_after = c.hypothesis_tag.ensures ∙ ap hypothesis_tag c.hypothesis.ensures;
+  next_timeout_after = c.poll_timeout.ensures;
+}

@@ -31,30 +31,30 @@ overflow_cast-result c = let most = bytes_most _ _ c.list.ensures.result_value c
 
 pub returns-in-Listing : goal.returns-in-Listing
 returns-in-Listing c = record {
-      value = bytes-answered _ _ c.list.ensures.result_value c.in-Listing.is;
-      out_after = search rules;
-    }
+  value = bytes-answered _ _ c.list.ensures.result_value c.in-Listing.is;
+  out_after = search rules;
+}
 
 pub returns-in-BadLength : goal.returns-in-BadLength
 returns-in-BadLength c = record {
-      value = answered c.list.ensures.result_value c.in-BadLength.is;
-      out_after = search rules;
-    }
+  value = answered c.list.ensures.result_value c.in-BadLength.is;
+  out_after = search rules;
+}
 
 pub returns-in-BadKind : goal.returns-in-BadKind
 returns-in-BadKind c = record {
-      value = answered c.list.ensures.result_value c.in-BadKind.is;
-      out_after = search rules;
-    }
+  value = answered c.list.ensures.result_value c.in-BadKind.is;
+  out_after = search rules;
+}
 
 pub returns-in-BadNext : goal.returns-in-BadNext
 returns-in-BadNext c = record {
-      value = answered c.list.ensures.result_value c.in-BadNext.is;
-      out_after = search rules;
-    }
+  value = answered c.list.ensures.result_value c.in-BadNext.is;
+  out_after = search rules;
+}
 
 pub returns-in-ShortOutput : goal.returns-in-ShortOutput
 returns-in-ShortOutput c = record {
-      value = answered c.list.ensures.result_value c.in-ShortOutput.is;
-      out_after = search rules;
-    }
+  value = answered c.list.ensures.result_value c.in-ShortOutput.is;
+  out_after = search rules;
+}

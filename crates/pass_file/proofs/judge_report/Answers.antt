@@ -11,8 +11,8 @@ returns c =
     let l = c.requires.kept_lengths in
     record {
       judges_report =
-        judged-report c.args.n c.args.sequences.now c.args.sizes.now c.args.sends.now c.args.remotes.now c.args.receives.now c.args.probe c.args.moment
-        l e.sizes_after e.sends_after e.remotes_after e.receives_after c.args.acked c.judge_report-judged.result c.judge_report-judged.ensures c.number.ensures;
+          judged-report c.args.n c.args.sequences.now c.args.sizes.now c.args.sends.now c.args.remotes.now c.args.receives.now c.args.probe c.args.moment
+          l e.sizes_after e.sends_after e.remotes_after e.receives_after c.args.acked c.judge_report-judged.result c.judge_report-judged.ensures c.number.ensures;
       kept_lengths_2 =
-        (l.0, as_long c.args.n q d r c.args.sizes.now l.1 e.sizes_after, as_long c.args.n q d r c.args.sends.now l.2 e.sends_after, as_long c.args.n q d r c.args.remotes.now l.3 e.remotes_after, as_long c.args.n q d r c.args.receives.now l.4 e.receives_after);
+          (l.0, as_long c.args.n q d r c.args.sizes.now l.1 e.sizes_after, as_long c.args.n q d r c.args.sends.now l.2 e.sends_after, as_long c.args.n q d r c.args.remotes.now l.3 e.remotes_after, as_long c.args.n q d r c.args.receives.now l.4 e.receives_after);
     }

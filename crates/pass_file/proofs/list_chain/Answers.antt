@@ -1,12 +1,12 @@
 -- `pass_file::list_chain` meets its contract. The loop's invariant: record k is on the linked chain, the lines from it on are left to write,
 -- the five lists keep the packets that wait, and the link is good, so that it is in range for the next call.
-use Prim.Native.Nat.{ℕ, ◌-◌}
+use Prim.Native.Nat.{◌-◌}
 use mathlib.Core.Path.{◌≡◌, sym, ap, subst, ◌∙◌}
-use mathlib.Core.List.{List, []}
+use mathlib.Core.List.{[]}
 use mathlib.Core.Bool.{cond}
 use native.Mathlib.Omega.{arith}
 use lib.Dec.{eqb}
-use lib.ListN.{length, take}
+use lib.ListN.{take}
 use Rattle.link_runs.specs.Statement.{call}
 use Rattle.link_runs.specs.InRange.{good-in-range}
 use Rattle.pass_records.specs.PassRecords.{chain_from, kind, next, record_count, report}
@@ -32,32 +32,32 @@ passed c =
     let y = good-in-range _ i.1.good in
     elim c.if-kind-eq-PACKET.branch [
       | then-kind-eq-PACKET w ↦
-        let e = w.wait-n.ensures in
-        same-progress w.out-is w.sequences-is w.sizes-is w.sends-is w.remotes-is w.receives-is (rw (w.acked-is, w.control-is)) w.n-is w.at-is
-        (joined b p (sym is ∙ w.if-kind-eq-PACKET.true) e.value e.sequences_after e.sizes_after e.sends_after e.remotes_after e.receives_after)
+          let e = w.wait-n.ensures in
+          same-progress w.out-is w.sequences-is w.sizes-is w.sends-is w.remotes-is w.receives-is (rw (w.acked-is, w.control-is)) w.n-is w.at-is
+          (joined b p (sym is ∙ w.if-kind-eq-PACKET.true) e.value e.sequences_after e.sizes_after e.sends_after e.remotes_after e.receives_after)
       | else-kind-eq-PACKET+then-kind-eq-REPORT w ↦
-        let h = sym is ∙ w.if-kind-eq-REPORT.true in
-        let j = w.judge_report-judged in
-        let control = w.if-judged-eq0.control in
-        let gives : Gives (call (link_of c.loop-sequences.acked c.loop-sequences.control) (call_of bytes (take (c.loop-sequences.n - 0) c.loop-sequences.sequences) (take (c.loop-sequences.n - 0) c.loop-sequences.sizes) (take (c.loop-sequences.n - 0) c.loop-sequences.sends) (take (c.loop-sequences.n - 0) c.loop-sequences.remotes) (take (c.loop-sequences.n - 0) c.loop-sequences.receives))) j.result.number (link_of j.result.acked control) =
-        elim w.if-judged-eq0.branch [
-          | then-judged-eq0 v ↦ report-accepted bytes c.loop-sequences.sequences c.loop-sequences.sizes c.loop-sequences.sends c.loop-sequences.remotes c.loop-sequences.receives c.loop-sequences.n c.loop-sequences.acked c.loop-sequences.control y h w.probe-probe.ensures c.receive-now.ensures j.new.sends j.new.remotes j.new.receives j.ensures.judges_report v.if-judged-eq0.true v.current_estimate.ensures (v.control-is ∙ v.update-control.ensures)
-          | else-judged-eq0 v ↦ rw v.control-is (report-refused bytes c.loop-sequences.sequences c.loop-sequences.sizes c.loop-sequences.sends c.loop-sequences.remotes c.loop-sequences.receives c.loop-sequences.n c.loop-sequences.acked c.loop-sequences.control y h w.probe-probe.ensures c.receive-now.ensures j.new.sends j.new.remotes j.new.receives j.ensures.judges_report v.if-judged-eq0.false)
-        ] in
-        same-progress w.out-is w.sequences-is w.sizes-is w.sends-is w.remotes-is w.receives-is (rw (w.acked-is, w.control-is)) w.n-is w.at-is
-        (reported b p h gives j.ensures.kept_lengths_2 (line-of c.loop-sequences.k j.result.number control w.last_estimate.ensures w.hypothesis.ensures w.poll_timeout.ensures) w.put_called-at.ensures.out_after w.put_called-at.ensures.value)
+          let h = sym is ∙ w.if-kind-eq-REPORT.true in
+          let j = w.judge_report-judged in
+          let control = w.if-judged-eq0.control in
+          let gives : Gives (call (link_of c.loop-sequences.acked c.loop-sequences.control) (call_of bytes (take (c.loop-sequences.n - 0) c.loop-sequences.sequences) (take (c.loop-sequences.n - 0) c.loop-sequences.sizes) (take (c.loop-sequences.n - 0) c.loop-sequences.sends) (take (c.loop-sequences.n - 0) c.loop-sequences.remotes) (take (c.loop-sequences.n - 0) c.loop-sequences.receives))) j.result.number (link_of j.result.acked control) =
+          elim w.if-judged-eq0.branch [
+            | then-judged-eq0 v ↦ report-accepted bytes c.loop-sequences.sequences c.loop-sequences.sizes c.loop-sequences.sends c.loop-sequences.remotes c.loop-sequences.receives c.loop-sequences.n c.loop-sequences.acked c.loop-sequences.control y h w.probe-probe.ensures c.receive-now.ensures j.new.sends j.new.remotes j.new.receives j.ensures.judges_report v.if-judged-eq0.true v.current_estimate.ensures (v.control-is ∙ v.update-control.ensures)
+            | else-judged-eq0 v ↦ rw v.control-is (report-refused bytes c.loop-sequences.sequences c.loop-sequences.sizes c.loop-sequences.sends c.loop-sequences.remotes c.loop-sequences.receives c.loop-sequences.n c.loop-sequences.acked c.loop-sequences.control y h w.probe-probe.ensures c.receive-now.ensures j.new.sends j.new.remotes j.new.receives j.ensures.judges_report v.if-judged-eq0.false)
+          ] in
+          same-progress w.out-is w.sequences-is w.sizes-is w.sends-is w.remotes-is w.receives-is (rw (w.acked-is, w.control-is)) w.n-is w.at-is
+          (reported b p h gives j.ensures.kept_lengths_2 (line-of c.loop-sequences.k j.result.number control w.last_estimate.ensures w.hypothesis.ensures w.poll_timeout.ensures) w.put_called-at.ensures.out_after w.put_called-at.ensures.value)
       | else-kind-eq-PACKET+else-kind-eq-REPORT w ↦
-        let h : kind bytes ≡ report → ⊥ = λ q. w.if-kind-eq-REPORT.false (is ∙ q) in
-        let number = w.judge_timeout-number.result in
-        let control = w.if-number-eq0.control in
-        let gives : Gives (call (link_of c.loop-sequences.acked c.loop-sequences.control) (call_of bytes (take (c.loop-sequences.n - 0) c.loop-sequences.sequences) (take (c.loop-sequences.n - 0) c.loop-sequences.sizes) (take (c.loop-sequences.n - 0) c.loop-sequences.sends) (take (c.loop-sequences.n - 0) c.loop-sequences.remotes) (take (c.loop-sequences.n - 0) c.loop-sequences.receives))) number (link_of c.loop-sequences.acked control) =
-        elim w.if-number-eq0.branch [
-          | then-number-eq0 v ↦ timeout-accepted bytes c.loop-sequences.sequences c.loop-sequences.sizes c.loop-sequences.sends c.loop-sequences.remotes c.loop-sequences.receives c.loop-sequences.n c.loop-sequences.acked c.loop-sequences.control y h c.receive-now.ensures w.judge_timeout-number.ensures v.if-number-eq0.true v.current_estimate-then-number-eq0.ensures (v.control-is ∙ v.handle_timeout-control.ensures)
-          | else-number-eq0 v ↦ rw v.control-is (timeout-refused bytes c.loop-sequences.sequences c.loop-sequences.sizes c.loop-sequences.sends c.loop-sequences.remotes c.loop-sequences.receives c.loop-sequences.n c.loop-sequences.acked c.loop-sequences.control y h c.receive-now.ensures w.judge_timeout-number.ensures v.if-number-eq0.false)
-        ] in
-        let at = w.put_called-at-else-kind-eq-REPORT.ensures in
-        same-progress w.out-is w.sequences-is w.sizes-is w.sends-is w.remotes-is w.receives-is (rw (w.acked-is, w.control-is)) w.n-is w.at-is
-        (timed b p (λ q. w.if-kind-eq-PACKET.false (is ∙ q)) h gives (line-of c.loop-sequences.k number control w.last_estimate-else-kind-eq-REPORT.ensures w.hypothesis-else-kind-eq-REPORT.ensures w.poll_timeout-else-kind-eq-REPORT.ensures) at.out_after at.value)
+          let h : kind bytes ≡ report → ⊥ = λ q. w.if-kind-eq-REPORT.false (is ∙ q) in
+          let number = w.judge_timeout-number.result in
+          let control = w.if-number-eq0.control in
+          let gives : Gives (call (link_of c.loop-sequences.acked c.loop-sequences.control) (call_of bytes (take (c.loop-sequences.n - 0) c.loop-sequences.sequences) (take (c.loop-sequences.n - 0) c.loop-sequences.sizes) (take (c.loop-sequences.n - 0) c.loop-sequences.sends) (take (c.loop-sequences.n - 0) c.loop-sequences.remotes) (take (c.loop-sequences.n - 0) c.loop-sequences.receives))) number (link_of c.loop-sequences.acked control) =
+          elim w.if-number-eq0.branch [
+            | then-number-eq0 v ↦ timeout-accepted bytes c.loop-sequences.sequences c.loop-sequences.sizes c.loop-sequences.sends c.loop-sequences.remotes c.loop-sequences.receives c.loop-sequences.n c.loop-sequences.acked c.loop-sequences.control y h c.receive-now.ensures w.judge_timeout-number.ensures v.if-number-eq0.true v.current_estimate-then-number-eq0.ensures (v.control-is ∙ v.handle_timeout-control.ensures)
+            | else-number-eq0 v ↦ rw v.control-is (timeout-refused bytes c.loop-sequences.sequences c.loop-sequences.sizes c.loop-sequences.sends c.loop-sequences.remotes c.loop-sequences.receives c.loop-sequences.n c.loop-sequences.acked c.loop-sequences.control y h c.receive-now.ensures w.judge_timeout-number.ensures v.if-number-eq0.false)
+          ] in
+          let at = w.put_called-at-else-kind-eq-REPORT.ensures in
+          same-progress w.out-is w.sequences-is w.sizes-is w.sends-is w.remotes-is w.receives-is (rw (w.acked-is, w.control-is)) w.n-is w.at-is
+          (timed b p (λ q. w.if-kind-eq-PACKET.false (is ∙ q)) h gives (line-of c.loop-sequences.k number control w.last_estimate-else-kind-eq-REPORT.ensures w.hypothesis-else-kind-eq-REPORT.ensures w.poll_timeout-else-kind-eq-REPORT.ensures) at.out_after at.value)
     ]
 
 -- ---- the record that follows, where one does
