@@ -1,7 +1,7 @@
 #![tactic(auto)]
 
 // The order of `f64` values with signs, zeros and infinities, as mathematics for the specs and proofs of other crates: there is no code.
-// Others cite a file of `specs/` as `Rattle.float_order.specs.FILE`.
+// Others cite a file of `specs/` as `Rattle.float_order.specs.FILE`. The laws of Relative, Dyadic and Equal, and Gaps, are in `proofs/`: `Rattle.float_order.proofs.FILE`.
 //   Order, Round, Ops     `le` and `lt`; rounding keeps the order; each operation as the rounding of a fraction, monotone, of known sign, no NaN
 //   Range, Interval, Abs  x in [lo, hi], `In lo hi x`: the range of a result, its ends given (`add-in`) or computed (`add_at`); |x| ≤ a
 //   Exact, Same, Gaps     a value of the format is its own rounding: x ≤ x + y; equal numbers are the same data; no float between neighbours
