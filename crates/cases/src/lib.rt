@@ -1,11 +1,10 @@
-// What the test programs share: a case of the oracle (tools/oracle), whether answers agree with it, how many cases differ, lines with such counts, and reading.
+// What the test programs share: a case of the oracle (tools/oracle), whether answers agree with it, how many cases differ, and lines with such counts.
 #![tactic(auto)]
 
-ghost use Rattle.std.specs.Prelude.{◌≡◌, ◌≤◌, IfOk, length};
+ghost use Rattle.std.specs.Prelude.{◌≡◌, length, replicate};
 ghost use Rattle.cases.specs.Cases as Cases;
 
 use std::io;
-use std::io::Read;
 use std::num::wrapping_add_u64;
 
 // An operation, its inputs and the Rust's answers.
@@ -117,22 +116,8 @@ fn print_line(rt: &impl Print, name: &[u8], a: u64, b: u64) -> io::Result<()> {
 
 // Room for so many bytes. A caller knows its length by the contract, and need not count a long array.
 pub fn zeros<const N: usize>() -> [u8; N]
-    ensures { N ≡ length result }
+    ensures length { N ≡ length result }
+    ensures zero { result ≡ replicate N 0 }
 {
     [0; N]
-}
-
-// Reads until the bytes are full or the input ends, and says how many it put at their start.
-pub fn read_full(input: &mut impl Read, bytes: &mut [u8]) -> io::Result<usize>
-    ensures { IfOk result (λ n. n ≤ length bytes.new) }
-{
-    let mut done = 0;
-    while done < bytes.len() {
-        let n = input.read(&mut bytes[done..])?;
-        if n == 0 {
-            break;
-        }
-        done += n;
-    }
-    Ok(done)
 }

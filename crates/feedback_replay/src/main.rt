@@ -204,7 +204,7 @@ fn read_and_compared(input: &mut impl Read, c: Case, bytes: &mut [u8]) -> io::Re
     if end > bytes.len() {
         return Ok(false);
     }
-    let read = cases::read_full(input, &mut bytes[0..end])? == end;
+    let read = reading::read_full(input, &mut bytes[0..end])? == end;
     Ok(read & compared(c, &bytes[0..length], &bytes[length..end]))
 }
 
@@ -213,7 +213,7 @@ fn replay(input: &mut impl Read, bytes: &mut [u8]) -> io::Result<Counts> {
     let mut counts = Counts::new();
     for _ in 0..1_000_000_000u64 {
         let mut words = [0u8; CASE_BYTES];
-        let read = cases::read_full(input, &mut words)?;
+        let read = reading::read_full(input, &mut words)?;
         if read == 0 {
             break;
         }

@@ -70,7 +70,7 @@ fn replay(input: &mut impl Read, file: &mut [u8], out: &mut [u8]) -> io::Result<
     put_timeouts(file);
     for _ in 0..1_000_000u64 {
         let mut bytes = [0u8; 96];
-        if cases::read_full(input, &mut bytes)? < 96 {
+        if reading::read_full(input, &mut bytes)? < 96 {
             break;
         }
         counts = counts.counted(0, compared(Case::read(&bytes), file, out));

@@ -54,7 +54,7 @@ fn read(file: &mut impl io::Read, size: usize, record: &mut [u8]) -> io::Result<
     if record.len() < size {
         return Ok(false);
     }
-    Ok(cases::read_full(file, &mut record[0..size])? == size)
+    Ok(reading::read_full(file, &mut record[0..size])? == size)
 }
 
 // Compares a file of records of `size` bytes.

@@ -53,7 +53,7 @@ fn read_words(input: &mut impl Read, words: &mut [u64]) -> io::Result<bool> {
     }
     let mut bytes = [0u8; 1600];
     let bytes = &mut bytes[0..8 * n];
-    let whole = cases::read_full(input, bytes)? == 8 * n;
+    let whole = reading::read_full(input, bytes)? == 8 * n;
     let mut i = 0;
     while i < n {
         words[i] = le_bytes::read_u64(bytes, 8 * i);
@@ -176,7 +176,7 @@ fn main(rt: HostRuntime) -> io::Result<()> {
     let mut done = Done::new();
     for _ in 0..1_000_000_000u64 {
         let mut bytes = [0u8; 96];
-        if cases::read_full(&mut input, &mut bytes)? < 96 {
+        if reading::read_full(&mut input, &mut bytes)? < 96 {
             break;
         }
         let i = Case::read(&bytes);

@@ -74,7 +74,7 @@ fn reads(input: &mut impl Read, out: &[u8], at: usize, n: usize) -> io::Result<b
     }
     let mut part = [0u8; PART];
     let part = &mut part[0..n];
-    Ok((cases::read_full(input, part)? == n) & has(out, at, part))
+    Ok((reading::read_full(input, part)? == n) & has(out, at, part))
 }
 
 // Whether the output starts with so many bytes of standard input, and is unwritten after them.
@@ -131,7 +131,7 @@ fn compared(input: &mut impl Read, c: Header, file: &mut [u8], out: &mut [u8]) -
     }
     let file = &mut file[0..n];
     let out = &mut out[0..room];
-    let read = cases::read_full(input, file)? == n;
+    let read = reading::read_full(input, file)? == n;
     unwrite(out);
     let listed = pass_file::list(file, out, pass_records::MOST_RECORDS);
     let same = answers(listed, number, bytes) & holds(input, out, bytes)?;
@@ -143,7 +143,7 @@ fn replay(input: &mut impl Read, file: &mut [u8], out: &mut [u8]) -> io::Result<
     let mut counts = Counts::new();
     for _ in 0..1_000_000_000u64 {
         let mut header = [0u8; 20];
-        if cases::read_full(input, &mut header)? < 20 {
+        if reading::read_full(input, &mut header)? < 20 {
             break;
         }
         let c = read_header(&header);

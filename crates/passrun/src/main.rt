@@ -1,12 +1,11 @@
 // Document 01's program: reads one pass file from standard input and prints its listing, or the number of the question that it fails.
 #![tactic(auto)]
 
-ghost use Rattle.std.specs.Prelude.{◌≤◌, IfOk, length};
+ghost use Rattle.std.specs.Prelude.{◌≤◌, length};
 ghost use Rattle.listing_line.specs.ListingLine.{Wrote};
 ghost use Rattle.passrun.specs.Passrun.{output_bytes, printed};
 
 use std::io;
-use std::io::Read;
 
 // The most records that a file may have here.
 const MOST_RECORDS: u16 = 1_365;
@@ -30,27 +29,12 @@ fn print(file: &[u8], out: &mut [u8]) -> usize
     listed.bytes()
 }
 
-// Reads until the bytes are full or the input ends, and says how many it put at their start.
-fn read_full(input: &mut impl Read, bytes: &mut [u8]) -> io::Result<usize>
-    ensures { IfOk result (λ n. n ≤ length bytes.new) }
-{
-    let mut done = 0;
-    while done < bytes.len() {
-        let n = input.read(&mut bytes[done..])?;
-        if n == 0 {
-            break;
-        }
-        done += n;
-    }
-    Ok(done)
-}
-
 // A longer file is read up to its beginning. A read that fails is no end, and then nothing is printed. What failed is said on standard error; where a write
 // fails, a part may be printed.
 fn main(rt: HostRuntime) -> io::Result<()> {
     let mut input = [0u8; BEGINNING_BYTES];
     let mut out = [0u8; OUTPUT_BYTES];
-    let Ok(n) = read_full(&mut rt.reader(), &mut input) else {
+    let Ok(n) = reading::read_full(&mut rt.reader(), &mut input) else {
         return rt.eprintln("passrun: standard input cannot be read");
     };
     let bytes = print(&input[0..n], &mut out);

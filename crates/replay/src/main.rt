@@ -151,7 +151,7 @@ fn main(rt: HostRuntime) -> io::Result<()> {
     let mut modules = Modules::new();
     for _ in 0..1_000_000_000u64 {
         let mut bytes = [0u8; 96];
-        if cases::read_full(&mut input, &mut bytes)? < 96 {
+        if reading::read_full(&mut input, &mut bytes)? < 96 {
             break;
         }
         let case = Case::read(&bytes);
