@@ -1,5 +1,5 @@
 -- A read's bytes come behind those that were there.
-use Rattle.std.proofs.Common.{◌≡◌, ℕ, List, ◌+◌, ◌-◌, ◌≤◌, length, length-append, length-take, length-drop, arith}
+use Rattle.std.proofs.Common.{◌≡◌, ℕ, List, ◌-◌, ◌≤◌, length, length-append, length-take, length-drop, arith}
 use Rattle.reading.proofs.Reading.{Consumes-trans, take-put_mid_within}
 use Rattle.reading.proofs.read_full.Goals as goal
 
