@@ -1,30 +1,15 @@
 -- std's `Duration` holds from 0 to below 2 ^ 64 seconds: what it rounds, and what is past an end.
-use Rattle.std.proofs.Common.{◌≡◌, ℕ, ◌-◌, ◌*◌, ◌/◌, ◌%◌, ◌^◌, ◌<◌, min, Bool, true, false, T, pos, refl, sym, arith}
+use Rattle.std.proofs.Common.{◌≡◌, ℕ, ◌-◌, ◌*◌, ◌^◌, ◌<◌, min, Bool, true, false, T, pos, refl, sym, arith}
 use Rattle.std.specs.Float.{Float, nan, inf, fin, binary64}
-use Rattle.std.specs.Float.Ieee.{up, down, le, lt, eq, of_bits, of_int, add, div, round}
+use Rattle.std.specs.Float.Ieee.{up, down, le, lt, eq, of_bits}
 use Rattle.std.specs.Float.Ieee.Fits.{down_pos}
 use Rattle.std.specs.Float.Ieee.Nearest.{closest, closest_same}
-use Rattle.std.specs.declared.time.Duration.{Duration}
-use Rattle.std.specs.Duration as Std
-use Rattle.std.specs.Duration.{FitsDurationSecs, as_nanos, nanos_of_secs, f64_billion}
+use Rattle.std.specs.Duration.{FitsDurationSecs, nanos_of_secs}
 use Rattle.float_order.specs.Order.{ordered, is_true, lt-left→le, lt-taken→le, le-ordered-r}
 use Rattle.float_order.specs.Ops.{zero₊, nonneg-under}
-use Rattle.seconds.specs.Seconds.{as_secs_f64, from_secs_f64}
+use Rattle.seconds.specs.Seconds.{from_secs_f64}
 use Rattle.seconds.specs.Laws.{ns-most, ns-mono}
 
--- ---- seconds of ns: the two fields are the whole seconds and the rest
-billion : f64_billion ≡ of_int binary64 (pos (10 ^ 9))
-unfolding of_bits of_int round
-billion = refl
-
-parts : (s r n : ℕ) → s ≡ n / 10 ^ 9 → r ≡ n % 10 ^ 9 → add binary64 (of_int binary64 (pos s)) (div binary64 (of_int binary64 (pos r)) f64_billion) ≡ as_secs_f64 n
-unfolding as_secs_f64
-parts s r n p q = rw (p, q, billion)
-
-pub seconds : (d : Duration) (n : ℕ) → as_nanos d ≡ n → Std.as_secs_f64 d ≡ as_secs_f64 n
-seconds d n e = parts d.secs (min d.nanos 999999999) n (omega arith) (omega arith)
-
--- ---- ns of seconds
 none-of : (a d : ℕ) → 0 < d → a ≡ 0 → closest (a * 1000000000) d ≡ 0
 none-of a d D z = rw z (closest_same 0 d 0 1 D (omega arith) (omega arith))
 
