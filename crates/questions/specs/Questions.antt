@@ -6,7 +6,7 @@ use Rattle.bandwidth.specs.declared.DataSize.{DataSize}
 use Rattle.receive_order.specs.ReceiveOrder.{most_packets, receive_order, entries}
 use Rattle.questions.specs.declared.Refusal.{Refusal}
 use Rattle.questions.specs.declared.OptionRefusal.{OptionRefusal}
-use Rattle.questions.specs.declared.OptionRefusal.TheVariants as Option
+use Rattle.questions.specs.declared.OptionRefusal.TheVariants as Asked
 
 -- ---- questions and refusals
 -- a question's number, and whether its answer is yes
@@ -34,8 +34,8 @@ number Refusal.BadProbe = 8
 number Refusal.TooManyBytes = 9
 
 abbrev pub number_or0 : OptionRefusal → ℕ
-number_or0 Option.None = 0
-number_or0 (Option.Some q) = number q
+number_or0 Asked.None = 0
+number_or0 (Asked.Some q) = number q
 
 -- ---- opening
 -- 2: is the start rate from 40,000 to 10^10?
