@@ -182,7 +182,7 @@ impl RateControl {
             return true; // no change yet
         };
         let rtt = self.last_rtt.unwrap_or(DEFAULT_BACKOFF_TIME);
-        if reduction_interval(rtt) <= time::saturating_duration_since(now, last_change) {
+        if reduction_interval(rtt) <= now.saturating_sub(last_change) {
             return true;
         }
         observed_bitrate.lt(self.estimated_bitrate.mul(0.5))
@@ -249,7 +249,7 @@ impl RateControl {
             return self.with_estimate(estimated_bitrate, now);
         }
         let last = self.last_estimate_update.unwrap_or(now);
-        let since = time::saturating_duration_since(now, last);
+        let since = now.saturating_sub(last);
         let next = self.with_average(reset_above(self.averaged_observed_bitrate, observed));
         let max = observed * Self::MAX_ESTIMATE_RATIO;
         let new_estimate = float::min(float::min(max, next.raised(since)), increase_limit);
