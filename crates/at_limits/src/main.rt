@@ -491,7 +491,7 @@ fn first(rt: &impl Print) -> io::Result<()> {
 // Whether a packet so many ns after the first, sent and received, needs a new group.
 fn group(rt: &impl Print, spacing: u64) -> io::Result<()> {
     let first = ArrivalGroup::new(0, 0);
-    yes_or_no(rt, first.add_packet(spacing, spacing).need_new_group)
+    yes_or_no(rt, first.add_packet(spacing, spacing).is_none())
 }
 
 // Whether a modified trend takes a threshold to another, 100 ms after its last update.

@@ -12,7 +12,7 @@ use trendline::Delays;
 // Two packets of which the second is sent and received so many ns after the first.
 fn group(rt: &impl Print, name: &str, spacing: u64) -> io::Result<()> {
     let first = ArrivalGroup::new(0, 0);
-    if first.add_packet(spacing, spacing).need_new_group {
+    if first.add_packet(spacing, spacing).is_none() {
         return println!(rt; "{name}: starts anew");
     }
     println!(rt; "{name}: joins")
