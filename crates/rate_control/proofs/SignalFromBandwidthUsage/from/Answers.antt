@@ -1,6 +1,6 @@
 -- `Signal::from` meets its contract: each return is its case of the definition.
 use Rattle.rate_control.specs.RateControl.{signal}
-use Rattle.rate_control.proofs.Signal.from.Goals as goal
+use Rattle.rate_control.proofs.SignalFromBandwidthUsage.from.Goals as goal
 
 pub returns-in-Overuse : goal.returns-in-Overuse
 unfolding signal
