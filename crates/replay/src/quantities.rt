@@ -131,7 +131,7 @@ pub fn average_words(m: MovingAverage, i: Case) -> [u64; 6] {
 }
 
 pub fn acked_words(a: AckedBitrateEstimator) -> [u64; 6] {
-    let bytes = float::as_u64(a.sum.as_bytes_f64());
+    let bytes = std::num::saturating_f64_to_u64(a.sum.as_bytes_f64());
     let variance = float_bits::to_bits(a.estimate_var);
     match a.current_estimate() {
         None => [0, 0, variance, bytes, a.current_window, 0],

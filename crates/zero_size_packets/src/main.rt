@@ -109,7 +109,7 @@ fn taken(report: u64) -> u64 {
 // In bps.
 fn estimate(link: Link) -> u64 {
     let control = link.control;
-    float::as_u64(control.last_estimate().as_f64())
+    std::num::saturating_f64_to_u64(control.last_estimate().as_f64())
 }
 
 fn is_shown(number: u64) -> bool {
