@@ -9,7 +9,7 @@ use Rattle.std.proofs.Math.Seq.{take-nil}
 use Rattle.std.proofs.Math.Pow.{field, shr-shr, mod-mod-pow}
 use borrow.Author.Tests.{lt-ltb, le-ltb, ltb-true, eq-eqb, ne_eqb}
 use Rattle.bool_laws.specs.Bools.{cases}
-use Rattle.status_chunk.specs.Chunk.{status_vector, two_bit_vector, reserved, two_bit, symbol_count, symbol, symbols_from, symbols_of, delta_bytes, any_reserved}
+use Rattle.status_chunk.specs.Chunk.{status_vector, two_bit_vector, reserved, vector_symbol, symbol_count, symbol, symbols_from, symbols_of, delta_bytes, any_reserved}
 
 -- ---- how many symbols
 pub count-one-bit : (chunk : ℕ) → status_vector ≤ chunk → chunk < two_bit_vector → symbol_count chunk ≡ 14
@@ -135,15 +135,23 @@ run-reserved chunk i (suc n) h =
     go false false = refl
 
 -- ---- a vector of two-bit symbols
-pub two-bit-symbol : (chunk i : ℕ) → two_bit_vector ≤ chunk → symbol chunk i ≡ two_bit chunk i
+pub two-bit-symbol : (chunk i : ℕ) → two_bit_vector ≤ chunk → symbol chunk i ≡ vector_symbol 2 chunk i
 unfolding symbol
 two-bit-symbol chunk i h = rw (le-ltb chunk status_vector (omega arith), le-ltb chunk two_bit_vector h)
+
+-- by how many are left
+pub two-bit-left : (chunk i : ℕ) → two_bit_vector ≤ chunk → i < 7 → vector_symbol 2 chunk (7 - (7 - i)) ≡ symbol chunk i
+two-bit-left chunk i h l =
+    let e : 7 - (7 - i) ≡ i = omega arith in
+    rw e (sym (two-bit-symbol chunk i h))
 
 -- ---- a vector of one-bit symbols
 module _ (chunk : ℕ) (vector : status_vector ≤ chunk) (one : chunk < two_bit_vector) where
   one-bit-symbol : (i : ℕ) → symbol chunk i ≡ chunk / 2 ^ (13 - i) % 2
   unfolding symbol
-  one-bit-symbol i = rw (le-ltb chunk status_vector vector, lt-ltb chunk two_bit_vector one)
+  one-bit-symbol i =
+      let e : 14 - 1 * (i + 1) ≡ 13 - i = omega arith in
+      rw (le-ltb chunk status_vector vector, lt-ltb chunk two_bit_vector one, e)
 
   pub one-bit-unreserved : (i n : ℕ) → any_reserved (symbols_from chunk i n) ≡ false
   unfolding any_reserved symbols_from

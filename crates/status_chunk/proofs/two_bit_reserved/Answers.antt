@@ -1,20 +1,19 @@
 -- `status_chunk::two_bit_reserved` meets its contract. The loop's invariant: the symbols left have a reserved one where all have one.
-use mathlib.Core.Path.{◌≡◌, sym, ◌∙◌}
-use native.Mathlib.Omega.{arith}
+use Rattle.std.proofs.Common.{◌≡◌, sym, ◌∙◌, arith}
 use Rattle.status_chunk.specs.Chunk.{symbol, any_reserved}
-use Rattle.status_chunk.specs.Laws.{two-bit-symbol, reserved-turn, reserved-met, symbols-end}
+use Rattle.status_chunk.specs.Laws.{two-bit-left, reserved-turn, reserved-met, symbols-end}
 use Rattle.status_chunk.proofs.two_bit_reserved.Goals as goal
-use Rattle.status_chunk.proofs.two_bit_reserved.Goals.{After-two_bit}
+use Rattle.status_chunk.proofs.two_bit_reserved.Goals.{After-bits_left}
 
-is-symbol : (c : After-two_bit) → c.two_bit.result ≡ symbol c.args.chunk c.loop-i.i
-is-symbol c = c.two_bit.ensures ∙ sym (two-bit-symbol _ _ (omega arith))
+is-symbol : (c : After-bits_left) → c.bits_left.result ≡ symbol c.args.chunk c.loop-i.i
+is-symbol c = c.bits_left.ensures ∙ two-bit-left _ _ (omega arith) (omega arith)
 
-pub returns-then-two_bit-eq-RESERVED : goal.returns-then-two_bit-eq-RESERVED
-returns-then-two_bit-eq-RESERVED c = reserved-met _ _ _ _ c.loop-i-test.true (sym (is-symbol (goal.at.returns-then-two_bit-eq-RESERVED c).After-two_bit) ∙ c.if-two_bit-eq-RESERVED.true) c.loop-i.invariant.1
+pub returns-then-bits_left : goal.returns-then-bits_left
+returns-then-bits_left c = reserved-met _ _ _ _ c.loop-i-test.true (sym (is-symbol (goal.at.returns-then-bits_left c).After-bits_left) ∙ c.if-bits_left.true) c.loop-i.invariant
 
 pub loop-i-preserved : goal.loop-i-preserved
-loop-i-preserved c = (omega arith, reserved-turn _ _ _ _ c.loop-i-test.true (λ e. absurd (c.if-two_bit-eq-RESERVED.false (is-symbol (goal.at.loop-i-preserved c).After-two_bit ∙ e))) c.loop-i.invariant.1)
+loop-i-preserved c = reserved-turn _ _ _ _ c.loop-i-test.true (λ e. absurd (c.if-bits_left.false (is-symbol (goal.at.loop-i-preserved c).After-bits_left ∙ e))) c.loop-i.invariant
 
 pub returns : goal.returns
 unfolding any_reserved
-returns c = rw (symbols-end _ _ _ c.loop-i-test.false) at c.loop-i.invariant.1
+returns c = rw (symbols-end c.args.chunk c.loop-i.i c.args.n (omega arith)) at c.loop-i.invariant
