@@ -9,7 +9,9 @@ use Rattle.std.proofs.Math.Seq.{take-nil}
 use Rattle.std.proofs.Math.Pow.{field, shr-shr, mod-mod-pow}
 use borrow.Author.Tests.{lt-ltb, le-ltb, ltb-true, eq-eqb, ne_eqb}
 use Rattle.bool_laws.specs.Bools.{cases}
-use Rattle.status_chunk.specs.Chunk.{status_vector, two_bit_vector, reserved, vector_symbol, symbol_count, symbol, symbols_from, symbols_of, delta_bytes, any_reserved}
+use Rattle.status_chunk.specs.declared.Symbol.{Symbol}
+use Rattle.status_chunk.specs.declared.Symbol.TheVariants.{NotReceived, SmallDelta, LargeDelta, Reserved}
+use Rattle.status_chunk.specs.Chunk.{status_vector, two_bit_vector, not_received, reserved, number, vector_symbol, symbol_count, symbol, symbols_from, symbols_of, delta_bytes, any_reserved}
 
 -- ---- how many symbols
 pub count-one-bit : (chunk : ℕ) → status_vector ≤ chunk → chunk < two_bit_vector → symbol_count chunk ≡ 14
@@ -75,6 +77,19 @@ take-symbols chunk n = take-from chunk 0 (symbol_count chunk) n
 
 pub take-length : (chunk n : ℕ) → length (take n (symbols_of chunk)) ≡ min (symbol_count chunk) n
 take-length chunk n = rw (take-symbols chunk n) (symbols-length chunk 0 (min (symbol_count chunk) n))
+
+-- the number of a symbol that is none of one kind
+pub received : (s : Symbol) → (s ≡ NotReceived → ⊥) → eqb (number s) not_received ≡ false
+received NotReceived differs = absurd (differs refl)
+received SmallDelta differs = refl
+received LargeDelta differs = refl
+received Reserved differs = refl
+
+pub unreserved : (s : Symbol) → (s ≡ Reserved → ⊥) → eqb (number s) reserved ≡ false
+unreserved NotReceived differs = refl
+unreserved SmallDelta differs = refl
+unreserved LargeDelta differs = refl
+unreserved Reserved differs = absurd (differs refl)
 
 -- ---- lists of symbols
 pub any_append : (a b : List ℕ) → any_reserved (a ++ b) ≡ any_reserved a || any_reserved b

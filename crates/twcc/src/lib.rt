@@ -5,7 +5,7 @@ ghost use Rattle.std.specs.Prelude.{◌≡◌, ◌+◌, ◌<◌, ◌≤◌, ltb,
 ghost use Rattle.twcc.specs.Feedback as Feedback;
 ghost use Rattle.twcc.specs.Judging as Judging;
 
-const HEADER_BYTES: usize = 8;
+pub const HEADER_BYTES: usize = 8;
 
 #[derive(Clone, Copy, Debug, PartialEq, Eq)]
 pub struct Header {
