@@ -154,10 +154,9 @@ pub two-bit-symbol : (chunk i : ℕ) → two_bit_vector ≤ chunk → symbol chu
 unfolding symbol
 two-bit-symbol chunk i h = rw (le-ltb chunk status_vector (omega arith), le-ltb chunk two_bit_vector h)
 
--- by how many are left
-pub two-bit-left : (chunk i : ℕ) → two_bit_vector ≤ chunk → i < 7 → vector_symbol 2 chunk (7 - (7 - i)) ≡ symbol chunk i
-two-bit-left chunk i h l =
-    let e : 7 - (7 - i) ≡ i = omega arith in
+pub two-bit-shift : (chunk i : ℕ) → two_bit_vector ≤ chunk → chunk / 2 ^ (12 - 2 * i) % 4 ≡ symbol chunk i
+two-bit-shift chunk i h =
+    let e : 12 - 2 * i ≡ 14 - 2 * (i + 1) = omega arith in
     rw e (sym (two-bit-symbol chunk i h))
 
 -- ---- a vector of one-bit symbols

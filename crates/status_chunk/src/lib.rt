@@ -113,7 +113,7 @@ fn two_bit_bytes(chunk: u16, n: u16) -> usize
 {
     let mut bytes: usize = 0;
     for i in 0..n {
-        bytes += bits_left(chunk, 2, 7 - i) as usize;
+        bytes += usize::from((chunk >> (12 - 2 * i)) % 4);
     }
     bytes
 }
@@ -138,7 +138,7 @@ fn two_bit_reserved(chunk: u16, n: u16) -> bool
     ensures { result ≡ Chunk.any_reserved (Chunk.symbols_from chunk 0 n) }
 {
     for i in 0..n {
-        if bits_left(chunk, 2, 7 - i) == Symbol::Reserved as u16 {
+        if (chunk >> (12 - 2 * i)) % 4 == Symbol::Reserved as u16 {
             return true;
         }
     }

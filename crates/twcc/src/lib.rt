@@ -63,7 +63,7 @@ pub fn read_u16(bytes: &[u8], at: usize) -> u16
     ensures { result ≡ Feedback.read_u16 bytes.now at }
 {
     let high = le_bytes::read_u8(bytes, at);
-    let low = le_bytes::read_u8(bytes, at.saturating_add(1));
+    let low = if cut_short(bytes, at, 2) { 0 } else { bytes[at + 1] };
     u16::from_be_bytes([high, low])
 }
 
