@@ -3,12 +3,11 @@ use Rattle.std.specs.Prelude.{◌≡◌, refl, ℕ, ◌^◌, ◌≤◌, ◌<◌,
 use Rattle.std.proofs.Math.Path.{sym, ap}
 use Rattle.std.proofs.Common.{◌∙◌, mod-eq_of_lt, arith}
 use Rattle.twcc.specs.Feedback.{judge}
-use Rattle.twcc.specs.Judging.{header_of, judge_with_deltas, judged-is}
 use Rattle.twcc.specs.declared.Header.{Header}
-use Rattle.twcc.specs.declared.Judgement.{Judgement}
 use Rattle.twcc.specs.declared.Packet.{Packet}
 use Rattle.twcc.specs.declared.Refusal.{Refusal}
-use Rattle.feedback_reader.specs.Reader.{start, start_by}
+use Rattle.feedback_reader.specs.Reader.{start}
+use Rattle.feedback_reader.specs.Starting.{judged_of, start-judged}
 use Rattle.feedback_reader.specs.declared.Cursor.{Cursor}
 use Rattle.feedback_reader.specs.declared.Started.{Started}
 use Rattle.feedback_lists.specs.Lists.{next_packets, cursor_after, room}
@@ -16,19 +15,6 @@ use Rattle.feedback_lists.specs.Laws.{first-number, packets-most}
 use Rattle.c_feedback.specs.CFeedback.{to_words, cursor_of, packets_to, if_some, words_after, sequence_after}
 
 -- ---- a start
--- its judgement alone
-abbrev pub judged_of : Result Started Refusal → Result Header Refusal
-judged_of (Ok s) = Ok s.header
-judged_of (Err r) = Err r
-
-pub start-judged : (message : List ℕ) → judged_of (start message) ≡ judge message
-unfolding start
-start-judged message = go (judge_with_deltas message) ∙ judged-is message
-  where
-    go : (j : Result Judgement Refusal) → judged_of (start_by j) ≡ header_of j
-    go (Ok j) = refl
-    go (Err r) = refl
-
 pub judged : (message : List ℕ) {r s : Result Started Refusal} → r ≡ start message → r ≡ s → judge message ≡ judged_of s
 judged message is told = sym (start-judged message) ∙ ap judged_of (sym is ∙ told)
 
