@@ -1,9 +1,8 @@
 -- Laws of lent words and places.
-use Rattle.std.specs.Prelude.{◌≡◌, refl, ℕ, ◌^◌, ◌≤◌, ◌<◌, List, [], ◌∷◌, ℤ, length, Result, Ok, Err}
+use Rattle.std.specs.Prelude.{◌≡◌, refl, ℕ, ◌^◌, ◌≤◌, ◌<◌, List, [], ◌∷◌, ℤ, length, Result}
 use Rattle.std.proofs.Math.Path.{sym, ap}
 use Rattle.std.proofs.Common.{◌∙◌, mod-eq_of_lt, arith}
 use Rattle.twcc.specs.Feedback.{judge}
-use Rattle.twcc.specs.declared.Header.{Header}
 use Rattle.twcc.specs.declared.Packet.{Packet}
 use Rattle.twcc.specs.declared.Refusal.{Refusal}
 use Rattle.feedback_reader.specs.Reader.{start}
