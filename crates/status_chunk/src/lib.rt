@@ -106,14 +106,16 @@ fn ones(chunk: u16, n: u16) -> usize
     (chunk % 16384 >> (14 - n)).count_ones() as usize
 }
 
-// The bytes of a vector of two-bit symbols.
+// The bytes of a vector of two-bit symbols, the last of them first.
 fn two_bit_bytes(chunk: u16, n: u16) -> usize
     requires { (Chunk.two_bit_vector ≤ chunk) × (n ≤ 7) }
     ensures { result ≡ Chunk.delta_bytes (Chunk.symbols_from chunk 0 n) }
 {
     let mut bytes: usize = 0;
-    for i in 0..n {
-        bytes += usize::from((chunk >> (12 - 2 * i)) % 4);
+    let mut rest = chunk >> (14 - 2 * n);
+    for _ in 0..n {
+        bytes += usize::from(rest % 4);
+        rest >>= 2;
     }
     bytes
 }
@@ -137,10 +139,12 @@ fn two_bit_reserved(chunk: u16, n: u16) -> bool
     requires { (Chunk.two_bit_vector ≤ chunk) × (n ≤ 7) }
     ensures { result ≡ Chunk.any_reserved (Chunk.symbols_from chunk 0 n) }
 {
-    for i in 0..n {
-        if (chunk >> (12 - 2 * i)) % 4 == Symbol::Reserved as u16 {
+    let mut rest = chunk >> (14 - 2 * n);
+    for _ in 0..n {
+        if rest % 4 == Symbol::Reserved as u16 {
             return true;
         }
+        rest >>= 2;
     }
     false
 }

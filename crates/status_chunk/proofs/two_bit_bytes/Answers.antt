@@ -1,14 +1,21 @@
 -- `status_chunk::two_bit_bytes` meets its contract. The loop's invariant: the bytes counted, and those of the symbols left, are those of all.
-use Rattle.std.proofs.Common.{◌≡◌, ◌∙◌, arith}
-use Rattle.status_chunk.specs.Chunk.{symbol, delta_bytes}
-use Rattle.status_chunk.specs.Laws.{two-bit-shift, symbol-small, delta-bytes-turn, symbols-end}
+use Rattle.std.proofs.Common.{◌≡◌, ◌+◌, ◌-◌, ◌%◌, ap, ◌∙◌, arith, ℕ}
+use Rattle.status_chunk.specs.Chunk.{symbol, symbols_from, delta_bytes}
+use Rattle.status_chunk.specs.Laws.{left-symbol, left-turn, symbol-small, bytes-turn}
 use Rattle.status_chunk.proofs.two_bit_bytes.Goals as goal
 
-pub loop-i-preserved : goal.loop-i-preserved
-loop-i-preserved c =
-    let s : c.from-bytes.result ≡ symbol c.args.chunk c.loop-i.i = c.from-bytes.ensures ∙ two-bit-shift _ _ (omega arith) in
-    (omega (arith, s, symbol-small c.args.chunk c.loop-i.i (omega arith)), rw s (delta-bytes-turn _ _ _ _ _ c.loop-i-test.true c.loop-i.invariant.1))
+pub loop-preserved : goal.loop-preserved
+loop-preserved c =
+    let v = c.loop.invariant in
+    let s : c.from-bytes.result ≡ symbol c.args.chunk (c.args.n - (c.loop.counter + 1)) =
+    c.from-bytes.ensures ∙ ap (λ (k : ℕ). k % 4) v.0 ∙ left-symbol _ _ _ c.loop-test.true (omega arith) (omega arith) in (
+      rw v.0 (left-turn _ _ _ c.loop-test.true (omega arith)),
+      omega (arith, s, symbol-small c.args.chunk (c.args.n - (c.loop.counter + 1)) (omega arith)),
+      rw s (bytes-turn _ _ _ _ _ c.loop-test.true v.2),
+    )
 
 pub returns : goal.returns
-unfolding delta_bytes
-returns c = omega (arith, rw (symbols-end c.args.chunk c.loop-i.i c.args.n (omega arith)) at c.loop-i.invariant.1)
+unfolding delta_bytes symbols_from
+returns c =
+    let z : c.args.n - c.loop.counter ≡ 0 = omega arith in
+    omega (arith, rw z at c.loop.invariant.2)
