@@ -7,7 +7,7 @@ use native.Mathlib.Omega.{arith}
 use Rattle.std.specs.Int.Count.{ones, ones_step}
 use Rattle.std.proofs.Math.Seq.{take-nil}
 use Rattle.std.proofs.Math.Pow.{field, shr-shr, mod-mod-pow}
-use borrow.Author.Tests.{lt-ltb, le-ltb, ltb-true, eq-eqb, ne_eqb}
+use borrow.Author.Tests.{lt-ltb, le-ltb, ltb-true, ltb-false, eq-eqb, ne_eqb}
 use Rattle.bool_laws.specs.Bools.{cases}
 use Rattle.status_chunk.specs.declared.Symbol.{Symbol}
 use Rattle.status_chunk.specs.declared.Symbol.TheVariants.{NotReceived, SmallDelta, LargeDelta, Reserved}
@@ -185,18 +185,41 @@ two-bit-symbol chunk i h = rw (le-ltb chunk status_vector (omega arith), le-ltb 
 
 -- n of them of which i are read, from the last on: the bits that are left, those of the next lowest
 abbrev pub rest_of : ℕ → ℕ → ℕ → ℕ
-rest_of chunk n i = chunk / 2 ^ (14 - 2 * (n - i))
+rest_of chunk n i = chunk % 2 ^ 14 / 2 ^ (14 - 2 * (n - i))
 
-module _ (chunk n i : ℕ) (h : i < n) (few : n ≤ 7) where
-  pub left-symbol : two_bit_vector ≤ chunk → rest_of chunk n i % 4 ≡ symbol chunk (n - (i + 1))
-  left-symbol v =
-      let e : 14 - 2 * (n - i) ≡ 14 - 2 * (n - (i + 1) + 1) = omega arith in
-      rw e (sym (two-bit-symbol chunk (n - (i + 1)) v))
+module _ (chunk n i : ℕ) (few : n ≤ 7) where
+  pub rest-turn : rest_of chunk n i / 2 ^ 2 ≡ rest_of chunk n (i + 1)
+  rest-turn = go (ltb i n) refl
+    where
+      go : (t : Bool) → ltb i n ≡ t → rest_of chunk n i / 2 ^ 2 ≡ rest_of chunk n (i + 1)
+      go true t =
+          let h = ltb-true i n t in
+          let e : 14 - 2 * (n - i) + 2 ≡ 14 - 2 * (n - (i + 1)) = omega arith in
+          shr-shr (chunk % 2 ^ 14) (14 - 2 * (n - i)) 2 ∙ ap (λ (k : ℕ). chunk % 2 ^ 14 / 2 ^ k) e
+      go false t =
+          let h = ltb-false i n t in
+          let e : 14 - 2 * (n - i) ≡ 14 = omega arith in
+          let f : 14 - 2 * (n - (i + 1)) ≡ 14 = omega arith in
+          let z : chunk % 2 ^ 14 / 2 ^ 14 ≡ 0 = omega arith in
+          rw (e, f, z)
 
-  pub left-turn : rest_of chunk n i / 2 ^ 2 ≡ rest_of chunk n (i + 1)
-  left-turn =
-      let e : 14 - 2 * (n - i) + 2 ≡ 14 - 2 * (n - (i + 1)) = omega arith in
-      shr-shr chunk (14 - 2 * (n - i)) 2 ∙ ap (λ (k : ℕ). chunk / 2 ^ k) e
+  pub rest-none : n ≤ i → rest_of chunk n i ≡ 0
+  rest-none h =
+      let e : 14 - 2 * (n - i) ≡ 14 = omega arith in
+      let z : chunk % 2 ^ 14 / 2 ^ 14 ≡ 0 = omega arith in
+      rw (e, z)
+
+  pub rest-symbol : i < n → two_bit_vector ≤ chunk → rest_of chunk n i % 4 ≡ symbol chunk (n - (i + 1))
+  rest-symbol h v =
+      let k : 2 * (n - i) + (14 - 2 * (n - i)) ≡ 14 = omega arith in
+      let p : 2 * (n - i) ≡ 2 * (n - (i + 1)) + 2 = omega arith in
+      let q : 14 - 2 * (n - i) ≡ 14 - 2 * (n - (i + 1) + 1) = omega arith in
+      ap (λ (j : ℕ). chunk % 2 ^ j / 2 ^ (14 - 2 * (n - i)) % 4) (sym k)
+      ∙ ap (λ (j : ℕ). j % 4) (field chunk (2 * (n - i)) (14 - 2 * (n - i)))
+      ∙ ap (λ (j : ℕ). chunk / 2 ^ (14 - 2 * (n - i)) % 2 ^ j % 4) p
+      ∙ mod-mod-pow (chunk / 2 ^ (14 - 2 * (n - i))) (2 * (n - (i + 1))) 2
+      ∙ ap (λ (j : ℕ). chunk / 2 ^ j % 4) q
+      ∙ sym (two-bit-symbol chunk (n - (i + 1)) v)
 
 -- ---- a vector of one-bit symbols
 module _ (chunk : ℕ) (vector : status_vector ≤ chunk) (one : chunk < two_bit_vector) where

@@ -106,14 +106,14 @@ fn ones(chunk: u16, n: u16) -> usize
     (chunk % 16384 >> (14 - n)).count_ones() as usize
 }
 
-// The bytes of a vector of two-bit symbols, the last of them first.
+// The bytes of a vector of two-bit symbols, the last of them first. In place of those past n stand zeros; so the loop has a fixed length, which compiles to no loop.
 fn two_bit_bytes(chunk: u16, n: u16) -> usize
     requires { (Chunk.two_bit_vector ≤ chunk) × (n ≤ 7) }
     ensures { result ≡ Chunk.delta_bytes (Chunk.symbols_from chunk 0 n) }
 {
     let mut bytes: usize = 0;
-    let mut rest = chunk >> (14 - 2 * n);
-    for _ in 0..n {
+    let mut rest = chunk % 16384 >> (14 - 2 * n);
+    for _ in 0..7u16 {
         bytes += usize::from(rest % 4);
         rest >>= 2;
     }
@@ -139,8 +139,8 @@ fn two_bit_reserved(chunk: u16, n: u16) -> bool
     requires { (Chunk.two_bit_vector ≤ chunk) × (n ≤ 7) }
     ensures { result ≡ Chunk.any_reserved (Chunk.symbols_from chunk 0 n) }
 {
-    let mut rest = chunk >> (14 - 2 * n);
-    for _ in 0..n {
+    let mut rest = chunk % 16384 >> (14 - 2 * n);
+    for _ in 0..7u16 {
         if rest % 4 == Symbol::Reserved as u16 {
             return true;
         }

@@ -62,9 +62,11 @@ impl From<Refusal> for u64 {
 pub fn read_u16(bytes: &[u8], at: usize) -> u16
     ensures { result ≡ Feedback.read_u16 bytes.now at }
 {
-    let high = le_bytes::read_u8(bytes, at);
-    let low = if cut_short(bytes, at, 2) { 0 } else { bytes[at + 1] };
-    u16::from_be_bytes([high, low])
+    if bytes.len() <= at {
+        return 0;
+    }
+    let low = if bytes.len() - at < 2 { 0 } else { bytes[at + 1] };
+    u16::from_be_bytes([bytes[at], low])
 }
 
 // Whether n bytes from a place on run past the end.
