@@ -1,3 +1,2 @@
-pub mod Opposite
 pub mod Runs
 pub mod Stored

@@ -10,10 +10,10 @@ use lib.Ieee.{Float, binary64, to_bits}
 use Rattle.trendline.specs.declared.History.{History}
 use Rattle.trendline.specs.declared.TrendlineEstimator.{TrendlineEstimator}
 use Rattle.control.specs.declared.DelayController.{DelayController}
+use Rattle.link_state.specs.Laws.{Sized}
 use Rattle.link_state.specs.declared.Link.{Link}
+use Rattle.std.specs.Prelude.{unwrap_or}
 use Rattle.link_words.specs.LinkWords.{
-  instant_tag,
-  instant_ns,
   acked_words,
   groups_words,
   history_words,
@@ -23,6 +23,7 @@ use Rattle.link_words.specs.LinkWords.{
   rate_control_words,
   round_trip_words,
   control_words,
+  tag,
   to_words,
 }
 
@@ -44,17 +45,18 @@ length_three xs ys zs = omega (arith, length-append (xs ++ ys) zs, length-append
 whole : (xs w : List ℕ) → length xs ≡ length w → sets w 0 xs ≡ xs
 whole xs w e = sets-eq xs w 0 (omega (arith, e)) ∙ ap (λ (r : List ℕ). xs ++ r) (drop_of_length-le w {i = 0 + length xs} (omega (arith, e))) ∙ append-nil xs
 
-module _ (h : History) (times : length h.times ≡ 20) (delays : length h.delays ≡ 20) where
+-- ---- parts whose arrays hold 20
+module _ (h : History) (sized : Sized h) where
   abbrev bits : List Float → List ℕ
   bits fs = map (to_bits binary64) fs
 
   times-length : length (bits h.times) ≡ 20
-  times-length = length-map h.times (to_bits binary64) ∙ times
+  times-length = length-map h.times (to_bits binary64) ∙ sized.times
 
   delays-length : length (bits h.delays) ≡ 20
-  delays-length = length-map h.delays (to_bits binary64) ∙ delays
+  delays-length = length-map h.delays (to_bits binary64) ∙ sized.delays
 
-  pub length-history : length (history_words h) ≡ 41
+  length-history : length (history_words h) ≡ 41
   unfolding history_words
   length-history = omega (arith, length_three (bits h.times) (bits h.delays) (h.len ∷ []), times-length, delays-length)
 
@@ -62,22 +64,22 @@ module _ (h : History) (times : length h.times ≡ 20) (delays : length h.delays
   unfolding history_words
   history-stored w = join-three (bits h.times) (bits h.delays) (h.len ∷ []) w 24 44 64 (omega (arith, times-length)) (omega (arith, delays-length))
 
-module _ (t : TrendlineEstimator) (history : length (history_words t.history) ≡ 41) where
+module _ (t : TrendlineEstimator) (sized : Sized t.history) where
   abbrev front : List ℕ
-  front = instant_tag t.zero_time ∷ instant_ns t.zero_time ∷ history_words t.history
+  front = tag t.zero_time ∷ unwrap_or t.zero_time 0 ∷ history_words t.history
 
   abbrev after : List ℕ
   after = overuse_words t.overuse t.last_threshold_update t.hypothesis
 
-  pub length-trendline : length (trendline_words t) ≡ 55
+  length-trendline : length (trendline_words t) ≡ 55
   unfolding trendline_words delays_words overuse_words
-  length-trendline = omega (arith, length_three front (delays_words t.delays) after, history)
+  length-trendline = omega (arith, length_three front (delays_words t.delays) after, length-history t.history sized)
 
   pub trendline-stored : (w : List ℕ) → sets (sets (sets w 22 front) 65 (delays_words t.delays)) 70 after ≡ sets w 22 (trendline_words t)
   unfolding trendline_words delays_words
-  trendline-stored w = join-three front (delays_words t.delays) after w 22 65 70 (omega (arith, history)) refl
+  trendline-stored w = join-three front (delays_words t.delays) after w 22 65 70 (omega (arith, length-history t.history sized)) refl
 
-module _ (c : DelayController) (trendline : length (trendline_words c.trendline_estimator) ≡ 55) where
+module _ (c : DelayController) (sized : Sized c.trendline_estimator.history) where
   abbrev groups : List ℕ
   groups = groups_words c.arrival_group_accumulator
 
@@ -90,23 +92,26 @@ module _ (c : DelayController) (trendline : length (trendline_words c.trendline_
   abbrev end : List ℕ
   end = round_trip_words c.smoothed_rtt c.next_timeout c.last_twcc_report
 
+  trend-length : length trend ≡ 55
+  trend-length = length-trendline c.trendline_estimator sized
+
   three : length (groups ++ trend ++ rate) ≡ 82
   unfolding groups_words rate_control_words
-  three = omega (arith, length_three groups trend rate, trendline)
+  three = omega (arith, length_three groups trend rate, trend-length)
 
-  pub length-control : length (control_words c) ≡ 90
+  length-control : length (control_words c) ≡ 90
   unfolding control_words round_trip_words
   length-control = omega (arith, length-append (groups ++ trend ++ rate) end, three)
 
   pub control-stored : (w : List ℕ) → sets (sets (sets (sets w 10 groups) 22 trend) 77 rate) 92 end ≡ sets w 10 (control_words c)
   unfolding control_words groups_words
   control-stored w =
-      ap (λ (v : List ℕ). sets v 92 end) (join-three groups trend rate w 10 22 77 refl (omega (arith, trendline)))
+      ap (λ (v : List ℕ). sets v 92 end) (join-three groups trend rate w 10 22 77 refl (omega (arith, trend-length)))
       ∙ join (groups ++ trend ++ rate) end w 10 92 (omega (arith, three))
 
-module _ (l : Link) (control : length (control_words l.control) ≡ 90) where
+module _ (l : Link) (sized : Sized l.control.trendline_estimator.history) where
   pub words-stored : (w : List ℕ) → length w ≡ 100 → sets (sets (set w 0 1) 1 (acked_words l.acked)) 10 (control_words l.control) ≡ to_words l
   unfolding to_words acked_words
   words-stored w e =
       join (acked_words l.acked) (control_words l.control) (set w 0 1) 1 10 refl
-      ∙ whole (to_words l) w (omega (arith, control, e))
+      ∙ whole (to_words l) w (omega (arith, length-control l.control sized, e))

@@ -2,7 +2,7 @@
 use Rattle.trendline.specs.declared.Overuse.{Overuse}
 use Rattle.arrival_group.specs.declared.ArrivalGroup.{ArrivalGroup}
 use Rattle.bandwidth.specs.declared.Bitrate.{Bitrate}
-use Rattle.std.specs.Prelude.{ℕ, zero, suc, ◌^◌, ◌<◌, ◌≡◌, Bool, ◌&&◌, ◌||◌, T, eqb, length, Float, Option, Some, None}
+use Rattle.std.specs.Prelude.{ℕ, zero, suc, ◌^◌, ◌<◌, ◌≡◌, Bool, ◌&&◌, ◌||◌, T, eqb, length, Float, Option, Some, None, unwrap_or, ◌+◌}
 use Rattle.std.proofs.Common.{arith, ap, subst, ◌∙◌, length-set, SFits}
 use Rattle.std.proofs.Math.Path.{refl, ap₂}
 use Rattle.std.proofs.Math.Bool.{true, false}
@@ -30,7 +30,7 @@ use Rattle.control.specs.Control.{with_rate}
 use Rattle.control.specs.declared.DelayController.{DelayController}
 use Rattle.link_state.specs.Laws.{Sized}
 use Rattle.link_state.specs.declared.Link.{Link}
-use Rattle.link_words.specs.LinkWords.{acked, acked_words, average, average_bits, average_tag, bitrate, bitrate_bits, bitrate_tag, control, control_words, delays, delays_words, duration, duration_ns, duration_tag, floats, formed, group, group_tag, group_times, groups, groups_words, history, history_words, hypothesis, hypothesis_tag, instant, instant_ns, instant_tag, moving_average, of_words, overuse, overuse_tag, overuse_values, overuse_words, rate_control, rate_control_words, round_trip_words, state, state_tag, time_delta, time_ns, time_tag, timeout_words, to_words, trendline, trendline_words}
+use Rattle.link_words.specs.LinkWords.{acked, acked_words, average_words, bits, control, control_words, delays, delays_words, floats, formed, group, group_words, groups, groups_words, history, history_words, hypothesis, hypothesis_tag, moving_average, of_words, option, overuse_values, overuse_words, rate_control, rate_control_words, round_trip_words, state, state_tag, tag, time_delta, time_ns, time_tag, timeout_words, to_words, trendline, trendline_words}
 
 -- ---- values of the types: a float is one of binary64, a size an i64, and arrays hold 20. Every link of the code is so.
 abbrev pub Held : Float → Type 0
@@ -81,20 +81,16 @@ pub record LinkHeld (l : Link) : Type 0 where
   pub rate-control : RateControlHeld l.control.rate_control
   pub smoothed-rtt : AverageHeld l.control.smoothed_rtt
 
--- ---- enums load as they were
-instant-back : (t : Option ℕ) → instant (instant_tag t) (instant_ns t) ≡ t
-instant-back None = refl
-instant-back (Some t) = refl
+-- ---- options and enums load as they were
+option-back : {A : Type 0} (o : Option A) (d : A) → option (tag o) (unwrap_or o d) ≡ o
+option-back None d = refl
+option-back (Some x) d = refl
 
-duration-back : (d : Option ℕ) → duration (duration_tag d) (duration_ns d) ≡ d
-duration-back None = refl
-duration-back (Some d) = refl
-
-bitrate-back : (r : Option Bitrate) → RateHeld r → bitrate (bitrate_tag r) (bitrate_bits r) ≡ r
+bitrate-back : (r : Option Bitrate) → RateHeld r → option (tag r) (record { 0 = of_bits binary64 (bits (λ r. r.0) r) }) ≡ r
 bitrate-back None h = refl
 bitrate-back (Some r) h = ap (λ (x : Float). Some (record { 0 = x })) (of_bits-to_bits binary64 r.0 h)
 
-average-back : (m : MovingAverage) → AverageHeld m → moving_average (to_bits binary64 m.smoothing_factor) (average_tag m.average) (average_bits m.average) (to_bits binary64 m.variance) (to_bits binary64 m.std) ≡ m
+average-back : (m : MovingAverage) → AverageHeld m → moving_average (average_words m) 0 ≡ m
 average-back m h =
     simp (
       of_bits-to_bits binary64 m.smoothing_factor h.factor,
@@ -103,13 +99,11 @@ average-back m h =
       of_bits-to_bits binary64 m.std h.std,
     )
   where
-    value : (x : Option Float) → FloatHeld x → average (average_tag x) (average_bits x) ≡ x
+    value : (x : Option Float) → FloatHeld x → option (tag x) (of_bits binary64 (bits (λ y. y) x)) ≡ x
     value None h = refl
     value (Some x) h = ap Some (of_bits-to_bits binary64 x h)
 
-group-back : (g : Option ArrivalGroup)
-    → group (group_tag g) (group_times g).first_local_send_time (group_times g).first_remote_recv_time (group_times g).last_local_send_time (group_times g).last_remote_recv_time
-    ≡ g
+group-back : (g : Option ArrivalGroup) → group (group_words g) 0 ≡ g
 group-back None = refl
 group-back (Some g) = refl
 
@@ -120,7 +114,7 @@ time-back (Delta.Positive n) = refl
 time-back Delta.PositiveInfinity = refl
 
 overuse-back : (o : Option Overuse)
-    → overuse (overuse_tag o) (overuse_values o).count (time_tag (overuse_values o).time_overusing) (time_ns (overuse_values o).time_overusing) ≡ o
+    → option (tag o) (record { count = (overuse_values o).count; time_overusing = time_delta (time_tag (overuse_values o).time_overusing) (time_ns (overuse_values o).time_overusing) }) ≡ o
 overuse-back None = refl
 overuse-back (Some o) = simp (time-back o.time_overusing)
 
@@ -135,25 +129,9 @@ state-back S.Hold = refl
 state-back S.Decrease = refl
 
 -- ---- tags are in range
-instant-formed : (t : Option ℕ) → leb (instant_tag t) 1 ≡ true
-instant-formed None = refl
-instant-formed (Some t) = refl
-
-duration-formed : (d : Option ℕ) → leb (duration_tag d) 1 ≡ true
-duration-formed None = refl
-duration-formed (Some d) = refl
-
-bitrate-formed : (r : Option Bitrate) → leb (bitrate_tag r) 1 ≡ true
-bitrate-formed None = refl
-bitrate-formed (Some r) = refl
-
-average-formed : (x : Option Float) → leb (average_tag x) 1 ≡ true
-average-formed None = refl
-average-formed (Some x) = refl
-
-group-formed : (g : Option ArrivalGroup) → leb (group_tag g) 1 ≡ true
-group-formed None = refl
-group-formed (Some g) = refl
+option-formed : {A : Type 0} (o : Option A) → leb (tag o) 1 ≡ true
+option-formed None = refl
+option-formed (Some x) = refl
 
 time-formed : (t : TimeDelta) → leb (time_tag t) 3 ≡ true
 time-formed Delta.NegativeInfinity = refl
@@ -161,7 +139,7 @@ time-formed (Delta.Negative n) = refl
 time-formed (Delta.Positive n) = refl
 time-formed Delta.PositiveInfinity = refl
 
-overuse-formed : (o : Option Overuse) → (leb (overuse_tag o) 1 ≡ true) × ((eqb (overuse_tag o) 0 || leb (time_tag (overuse_values o).time_overusing) 3) ≡ true)
+overuse-formed : (o : Option Overuse) → (leb (tag o) 1 ≡ true) × ((eqb (tag o) 0 || leb (time_tag (overuse_values o).time_overusing) 3) ≡ true)
 overuse-formed None = (refl, refl)
 overuse-formed (Some o) = (refl, time-formed o.time_overusing)
 
@@ -239,8 +217,8 @@ reloaded-same c h =
       of_bits-to_bits binary64 c.max_bitrate.0 h.most,
       bitrate-back c.last_observed_bitrate h.observed,
       average-back c.averaged_observed_bitrate h.averaged,
-      instant-back c.last_estimate_update,
-      duration-back c.last_rtt,
+      option-back c.last_estimate_update 0,
+      option-back c.last_rtt 0,
     )
 
 -- a link with the rate control and the next timeout of another controller
@@ -254,13 +232,13 @@ module _ (l : Link) (f g : ℕ → Float) where
   acked-back : AckedHeld l.acked → acked words ≡ l.acked
   unfolding acked to_words acked_words
   acked-back h =
-      simp (bitrate-back l.acked.estimate h.estimate, of_bits-to_bits binary64 l.acked.estimate_var h.variance, to_z-of_z h.sum, instant-back l.acked.last_update)
+      simp (bitrate-back l.acked.estimate h.estimate, of_bits-to_bits binary64 l.acked.estimate_var h.variance, to_z-of_z h.sum, option-back l.acked.last_update 0)
 
   groups-back : groups words ≡ l.control.arrival_group_accumulator
   unfolding groups to_words acked_words control_words groups_words
   groups-back =
       let a = l.control.arrival_group_accumulator in
-      simp (instant-back a.send_time_origin, group-back a.previous_group, group-back a.current_group)
+      simp (option-back a.send_time_origin 0, group-back a.previous_group, group-back a.current_group)
 
   history-back : ((i : ℕ) → Held (f i)) → ((i : ℕ) → Held (g i)) → history words ≡ record { times = listed 20 f; delays = listed 20 g; len = l.control.trendline_estimator.history.len }
   unfolding history floats listed to_words acked_words control_words groups_words trendline_words history_words
@@ -286,21 +264,21 @@ module _ (l : Link) (f g : ℕ → Float) where
   trendline-back h hf hg =
       let t = l.control.trendline_estimator in
       simp (
-        instant-back t.zero_time,
+        option-back t.zero_time 0,
         history-back hf hg,
         delays-back h,
         overuse-back t.overuse,
-        instant-back t.last_threshold_update,
+        option-back t.last_threshold_update 0,
         hypothesis-back t.hypothesis,
       )
 
-  round-trip-back : AverageHeld l.control.smoothed_rtt → moving_average (get_or words 92 0) (get_or words 93 0) (get_or words 94 0) (get_or words 95 0) (get_or words 96 0) ≡ l.control.smoothed_rtt
+  round-trip-back : AverageHeld l.control.smoothed_rtt → moving_average words 92 ≡ l.control.smoothed_rtt
   unfolding listed to_words acked_words control_words groups_words trendline_words history_words delays_words overuse_words rate_control_words round_trip_words
   round-trip-back h = average-back l.control.smoothed_rtt h
 
-  last-back : instant (get_or words 98 0) (get_or words 99 0) ≡ l.control.last_twcc_report
+  last-back : option (get_or words 98 0) (get_or words 99 0) ≡ l.control.last_twcc_report
   unfolding listed to_words acked_words control_words groups_words trendline_words history_words delays_words overuse_words rate_control_words round_trip_words
-  last-back = instant-back l.control.last_twcc_report
+  last-back = option-back l.control.last_twcc_report 0
 
   next-back : get_or words 97 0 ≡ l.control.next_timeout
   unfolding listed to_words acked_words control_words groups_words trendline_words history_words delays_words overuse_words rate_control_words round_trip_words
@@ -328,23 +306,23 @@ module _ (l : Link) (f g : ℕ → Float) where
       let t = c.trendline_estimator in
       let r = c.rate_control in
       simp (
-        bitrate-formed a.estimate,
-        instant-formed a.last_update,
-        instant-formed s.send_time_origin,
-        group-formed s.previous_group,
-        group-formed s.current_group,
-        instant-formed t.zero_time,
+        option-formed a.estimate,
+        option-formed a.last_update,
+        option-formed s.send_time_origin,
+        option-formed s.previous_group,
+        option-formed s.current_group,
+        option-formed t.zero_time,
         (overuse-formed t.overuse).0,
         (overuse-formed t.overuse).1,
-        instant-formed t.last_threshold_update,
+        option-formed t.last_threshold_update,
         hypothesis-formed t.hypothesis,
         state-formed r.state,
-        bitrate-formed r.last_observed_bitrate,
-        average-formed r.averaged_observed_bitrate.average,
-        instant-formed r.last_estimate_update,
-        duration-formed r.last_rtt,
-        average-formed c.smoothed_rtt.average,
-        instant-formed c.last_twcc_report,
+        option-formed r.last_observed_bitrate,
+        option-formed r.averaged_observed_bitrate.average,
+        option-formed r.last_estimate_update,
+        option-formed r.last_rtt,
+        option-formed c.smoothed_rtt.average,
+        option-formed c.last_twcc_report,
       )
 
   -- a timeout changes the words of its own fields
@@ -418,10 +396,10 @@ module _ (c : DelayController) (f : ℕ → ℕ) where
       let r = c.rate_control in
       rw (
         state-formed r.state,
-        bitrate-formed r.last_observed_bitrate,
-        average-formed r.averaged_observed_bitrate.average,
-        instant-formed r.last_estimate_update,
-        duration-formed r.last_rtt,
+        option-formed r.last_observed_bitrate,
+        option-formed r.averaged_observed_bitrate.average,
+        option-formed r.last_estimate_update,
+        option-formed r.last_rtt,
       )
       (kept
       (eqb (f 0) 1 && leb (f 3) 1 && leb (f 8) 1 && leb (f 10) 1 && leb (f 12) 1 && leb (f 17) 1 && leb (f 22) 1 && leb (f 70) 1 && (eqb (f 70) 0 || leb (f 72) 3) && leb (f 74) 1 && leb (f 76) 2)
@@ -473,16 +451,16 @@ unfolding floats
 floats-held w i zero = (refl, tt)
 floats-held w i (suc n) = let r = floats-held w (suc i) n in (ap suc r.0, (of_bits-fits binary64 (get_or w i 0), r.1))
 
-bitrate-held : (tag bits : ℕ) → RateHeld (bitrate tag bits)
+bitrate-held : (tag bits : ℕ) → RateHeld (option tag (record { 0 = of_bits binary64 bits }))
 bitrate-held tag bits = chosen RateHeld (eqb tag 0) tt (of_bits-fits binary64 bits)
 
-average-held : (factor tag bits variance std : ℕ) → AverageHeld (moving_average factor tag bits variance std)
-average-held factor tag bits variance std =
+average-held : (w : List ℕ) (i : ℕ) → AverageHeld (moving_average w i)
+average-held w i =
     record {
-      factor = of_bits-fits binary64 factor;
-      average = chosen FloatHeld (eqb tag 0) tt (of_bits-fits binary64 bits);
-      variance = of_bits-fits binary64 variance;
-      std = of_bits-fits binary64 std;
+      factor = of_bits-fits binary64 (get_or w i 0);
+      average = chosen FloatHeld (eqb (get_or w (i + 1) 0) 0) tt (of_bits-fits binary64 (get_or w (i + 2) 0));
+      variance = of_bits-fits binary64 (get_or w (i + 3) 0);
+      std = of_bits-fits binary64 (get_or w (i + 4) 0);
     }
 
 module _ (w : List ℕ) (size : get_or w 6 0 < 2 ^ 64) where
@@ -511,7 +489,7 @@ module _ (w : List ℕ) (size : get_or w 6 0 < 2 ^ 64) where
         least = of_bits-fits binary64 (get_or w 79 0);
         most = of_bits-fits binary64 (get_or w 80 0);
         observed = bitrate-held (get_or w 81 0) (get_or w 82 0);
-        averaged = average-held (get_or w 83 0) (get_or w 84 0) (get_or w 85 0) (get_or w 86 0) (get_or w 87 0);
+        averaged = average-held w 83;
       }
 
   pub loaded-held : LinkHeld (of_words w)
@@ -521,7 +499,7 @@ module _ (w : List ℕ) (size : get_or w 6 0 < 2 ^ 64) where
         acked = acked-held;
         trendline = trendline-held;
         rate-control = rate_control-held;
-        smoothed-rtt = average-held (get_or w 92 0) (get_or w 93 0) (get_or w 94 0) (get_or w 95 0) (get_or w 96 0);
+        smoothed-rtt = average-held w 92;
       }
 
   pub loaded-again : of_words (to_words (of_words w)) ≡ of_words w

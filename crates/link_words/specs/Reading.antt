@@ -1,5 +1,5 @@
 -- Which words are read, and that the others tell nothing of the link.
-use Prim.Native.Nat.{ℕ, zero, suc}
+use Prim.Native.Nat.{ℕ, zero, suc, ◌+◌}
 use Rattle.std.specs.Prelude.{◌≡◌, Bool, cond, not, ◌&&◌, ◌||◌, List, [], ◌∷◌, leb, ltb, eqb, get_or, Some, None}
 use Rattle.std.proofs.Math.Path.{refl}
 use Rattle.std.proofs.Common.{ap, subst}
@@ -7,8 +7,11 @@ use Rattle.std.proofs.Math.Bool.{true, false}
 use Rattle.std.proofs.Math.Dec.{T}
 use Rattle.std.specs.Float.{binary64}
 use Rattle.std.specs.Float.Ieee.{of_bits}
+use Rattle.arrival_group.specs.declared.ArrivalGroup.{ArrivalGroup}
+use Rattle.bandwidth.specs.declared.Bitrate.{Bitrate}
 use Rattle.time.specs.declared.TimeDelta.TheVariants as Delta
-use Rattle.link_words.specs.LinkWords.{acked, average, bitrate, control, delays, duration, floats, formed, group, groups, history, instant, of_words, overuse, rate_control, time_delta, trendline}
+use Rattle.trendline.specs.declared.Overuse.{Overuse}
+use Rattle.link_words.specs.LinkWords.{acked, control, delays, floats, formed, group, groups, history, of_words, option, rate_control, time_delta, trendline}
 
 -- options: the word of the tag, and the first and the last word of the value
 unfoldable pub options : List (ℕ × ℕ × ℕ)
@@ -46,29 +49,28 @@ reads w i = ltb 0 i && ltb i 100 && (not (eqb i 73) || finite (get_or w 72 0)) &
 pub record Agree (v w : List ℕ) : Type 0 where
   pub at : (i : ℕ) → T (reads v i) → get_or v i 0 ≡ get_or w i 0
 
-option-alike : {A : Type 0} (a b : ℕ) (n x y : A) → a ≡ b → (T (not (eqb a 0)) → x ≡ y) → cond (eqb a 0) n x ≡ cond (eqb b 0) n y
-option-alike {A} a b n x y e h = subst (λ (k : ℕ). cond (eqb a 0) n x ≡ cond (eqb k 0) n y) e (chosen (eqb a 0) h)
+option-alike : {A : Type 0} (a b : ℕ) (x y : A) → a ≡ b → (T (not (eqb a 0)) → x ≡ y) → option a x ≡ option b y
+option-alike a b x y e h = subst (λ (k : ℕ). option a x ≡ option k y) e (chosen (eqb a 0) h)
   where
-    chosen : (t : Bool) → (T (not t) → x ≡ y) → cond t n x ≡ cond t n y
+    chosen : (t : Bool) → (T (not t) → x ≡ y) → cond t None (Some x) ≡ cond t None (Some y)
     chosen true h = refl
-    chosen false h = h tt
+    chosen false h = ap Some (h tt)
 
-instant-alike : (a b x y : ℕ) → a ≡ b → (T (not (eqb a 0)) → x ≡ y) → instant a x ≡ instant b y
-instant-alike a b x y e h = option-alike a b None (Some x) (Some y) e (λ p. ap Some (h p))
+-- the word at i is that of a tag, and where it is not 0 the word at j is alike
+abbrev LikeAt : List ℕ → List ℕ → ℕ → ℕ → Type 0
+LikeAt v w i j = T (not (eqb (get_or v i 0) 0)) → get_or v j 0 ≡ get_or w j 0
 
-duration-alike : (a b x y : ℕ) → a ≡ b → (T (not (eqb a 0)) → x ≡ y) → duration a x ≡ duration b y
-duration-alike a b x y e h = option-alike a b None (Some x) (Some y) e (λ p. ap Some (h p))
+abbrev group_at : List ℕ → ℕ → ArrivalGroup
+group_at w i =
+    record {
+      first_local_send_time = get_or w (i + 1) 0;
+      first_remote_recv_time = get_or w (i + 2) 0;
+      last_local_send_time = get_or w (i + 3) 0;
+      last_remote_recv_time = get_or w (i + 4) 0;
+    }
 
-bitrate-alike : (a b x y : ℕ) → a ≡ b → (T (not (eqb a 0)) → x ≡ y) → bitrate a x ≡ bitrate b y
-bitrate-alike a b x y e h = option-alike a b None _ _ e (λ p. ap (λ (k : ℕ). Some (record { 0 = of_bits binary64 k })) (h p))
-
-average-alike : (a b x y : ℕ) → a ≡ b → (T (not (eqb a 0)) → x ≡ y) → average a x ≡ average b y
-average-alike a b x y e h = option-alike a b None _ _ e (λ p. ap (λ (k : ℕ). Some (of_bits binary64 k)) (h p))
-
-group-alike : (a b x₁ y₁ x₂ y₂ x₃ y₃ x₄ y₄ : ℕ) → a ≡ b → (T (not (eqb a 0)) → x₁ ≡ y₁) → (T (not (eqb a 0)) → x₂ ≡ y₂) → (T (not (eqb a 0)) → x₃ ≡ y₃)
-    → (T (not (eqb a 0)) → x₄ ≡ y₄)
-    → group a x₁ x₂ x₃ x₄ ≡ group b y₁ y₂ y₃ y₄
-group-alike a b x₁ y₁ x₂ y₂ x₃ y₃ x₄ y₄ e h₁ h₂ h₃ h₄ = option-alike a b None _ _ e (λ p. simp (h₁ p, h₂ p, h₃ p, h₄ p))
+group-alike : (v w : List ℕ) (i : ℕ) → get_or v i 0 ≡ get_or w i 0 → LikeAt v w i (i + 1) → LikeAt v w i (i + 2) → LikeAt v w i (i + 3) → LikeAt v w i (i + 4) → group v i ≡ group w i
+group-alike v w i e h₁ h₂ h₃ h₄ = option-alike (get_or v i 0) (get_or w i 0) (group_at v i) (group_at w i) e (λ p. simp (h₁ p, h₂ p, h₃ p, h₄ p))
 
 time-alike : (a b x y : ℕ) → a ≡ b → (T (finite a) → x ≡ y) → time_delta a x ≡ time_delta b y
 time-alike a b x y e h = subst (λ (k : ℕ). time_delta a x ≡ time_delta k y) e (at (eqb a 0) (eqb a 1) (eqb a 2) h)
@@ -81,9 +83,13 @@ time-alike a b x y e h = subst (λ (k : ℕ). time_delta a x ≡ time_delta k y)
     at false false true h = ap Delta.Positive (h tt)
     at false false false h = refl
 
-overuse-alike : (a b m n s t x y : ℕ) → a ≡ b → (T (not (eqb a 0)) → m ≡ n) → (T (not (eqb a 0)) → s ≡ t) → (T (finite s && not (eqb a 0)) → x ≡ y) → overuse a m s x ≡ overuse b n t y
+abbrev overuse_of : ℕ → ℕ → ℕ → Overuse
+overuse_of count tag ns = record { count = count; time_overusing = time_delta tag ns }
+
+overuse-alike : (a b m n s t x y : ℕ) → a ≡ b → (T (not (eqb a 0)) → m ≡ n) → (T (not (eqb a 0)) → s ≡ t) → (T (finite s && not (eqb a 0)) → x ≡ y)
+    → option a (overuse_of m s x) ≡ option b (overuse_of n t y)
 overuse-alike a b m n s t x y e h₁ h₂ h₃ =
-    option-alike a b None _ _ e (λ p. simp (h₁ p, time-alike s t x y (h₂ p) (λ q. h₃ (both_hold (finite s) (not (eqb a 0)) q p))))
+    option-alike a b (overuse_of m s x) (overuse_of n t y) e (λ p. simp (h₁ p, time-alike s t x y (h₂ p) (λ q. h₃ (both_hold (finite s) (not (eqb a 0)) q p))))
   where
     both_hold : (s t : Bool) → T s → T t → T (s && t)
     both_hold true t p q = q
@@ -101,6 +107,9 @@ read_all : List ℕ → ℕ → ℕ → Bool
 read_all w i zero = true
 read_all w i (suc n) = reads w i && read_all w (suc i) n
 
+abbrev rate : ℕ → Bitrate
+rate n = record { 0 = of_bits binary64 n }
+
 module _ (v w : List ℕ) (same : Agree v w) where
   acked-alike : acked v ≡ acked w
   unfolding acked reads options present
@@ -108,20 +117,20 @@ module _ (v w : List ℕ) (same : Agree v w) where
       simp (
         same.at 1 tt,
         same.at 2 tt,
-        bitrate-alike (get_or v 3 0) (get_or w 3 0) (get_or v 4 0) (get_or w 4 0) (same.at 3 tt) (λ p. same.at 4 p),
+        option-alike (get_or v 3 0) (get_or w 3 0) _ _ (same.at 3 tt) (λ p. ap rate (same.at 4 p)),
         same.at 5 tt,
         same.at 6 tt,
         same.at 7 tt,
-        instant-alike (get_or v 8 0) (get_or w 8 0) (get_or v 9 0) (get_or w 9 0) (same.at 8 tt) (λ p. same.at 9 p),
+        option-alike (get_or v 8 0) (get_or w 8 0) (get_or v 9 0) (get_or w 9 0) (same.at 8 tt) (λ p. same.at 9 p),
       )
 
   groups-alike : groups v ≡ groups w
   unfolding groups reads options present
   groups-alike =
       simp (
-        instant-alike (get_or v 10 0) (get_or w 10 0) (get_or v 11 0) (get_or w 11 0) (same.at 10 tt) (λ p. same.at 11 p),
-        group-alike (get_or v 12 0) (get_or w 12 0) (get_or v 13 0) (get_or w 13 0) (get_or v 14 0) (get_or w 14 0) (get_or v 15 0) (get_or w 15 0) (get_or v 16 0) (get_or w 16 0) (same.at 12 tt) (λ p. same.at 13 p) (λ p. same.at 14 p) (λ p. same.at 15 p) (λ p. same.at 16 p),
-        group-alike (get_or v 17 0) (get_or w 17 0) (get_or v 18 0) (get_or w 18 0) (get_or v 19 0) (get_or w 19 0) (get_or v 20 0) (get_or w 20 0) (get_or v 21 0) (get_or w 21 0) (same.at 17 tt) (λ p. same.at 18 p) (λ p. same.at 19 p) (λ p. same.at 20 p) (λ p. same.at 21 p),
+        option-alike (get_or v 10 0) (get_or w 10 0) (get_or v 11 0) (get_or w 11 0) (same.at 10 tt) (λ p. same.at 11 p),
+        group-alike v w 12 (same.at 12 tt) (λ p. same.at 13 p) (λ p. same.at 14 p) (λ p. same.at 15 p) (λ p. same.at 16 p),
+        group-alike v w 17 (same.at 17 tt) (λ p. same.at 18 p) (λ p. same.at 19 p) (λ p. same.at 20 p) (λ p. same.at 21 p),
       )
 
   floats_alike : (i n : ℕ) → T (read_all v i n) → floats v i n ≡ floats w i n
@@ -147,11 +156,11 @@ module _ (v w : List ℕ) (same : Agree v w) where
   unfolding trendline reads options present
   trendline-alike =
       simp (
-        instant-alike (get_or v 22 0) (get_or w 22 0) (get_or v 23 0) (get_or w 23 0) (same.at 22 tt) (λ p. same.at 23 p),
+        option-alike (get_or v 22 0) (get_or w 22 0) (get_or v 23 0) (get_or w 23 0) (same.at 22 tt) (λ p. same.at 23 p),
         history-alike,
         delays-alike,
         overuse-alike (get_or v 70 0) (get_or w 70 0) (get_or v 71 0) (get_or w 71 0) (get_or v 72 0) (get_or w 72 0) (get_or v 73 0) (get_or w 73 0) (same.at 70 tt) (λ p. same.at 71 p) (λ p. same.at 72 p) (λ p. same.at 73 p),
-        instant-alike (get_or v 74 0) (get_or w 74 0) (get_or v 75 0) (get_or w 75 0) (same.at 74 tt) (λ p. same.at 75 p),
+        option-alike (get_or v 74 0) (get_or w 74 0) (get_or v 75 0) (get_or w 75 0) (same.at 74 tt) (λ p. same.at 75 p),
         same.at 76 tt,
       )
 
@@ -163,13 +172,13 @@ module _ (v w : List ℕ) (same : Agree v w) where
         same.at 78 tt,
         same.at 79 tt,
         same.at 80 tt,
-        bitrate-alike (get_or v 81 0) (get_or w 81 0) (get_or v 82 0) (get_or w 82 0) (same.at 81 tt) (λ p. same.at 82 p),
+        option-alike (get_or v 81 0) (get_or w 81 0) _ _ (same.at 81 tt) (λ p. ap rate (same.at 82 p)),
         same.at 83 tt,
-        average-alike (get_or v 84 0) (get_or w 84 0) (get_or v 85 0) (get_or w 85 0) (same.at 84 tt) (λ p. same.at 85 p),
+        option-alike (get_or v 84 0) (get_or w 84 0) _ _ (same.at 84 tt) (λ p. ap (of_bits binary64) (same.at 85 p)),
         same.at 86 tt,
         same.at 87 tt,
-        instant-alike (get_or v 88 0) (get_or w 88 0) (get_or v 89 0) (get_or w 89 0) (same.at 88 tt) (λ p. same.at 89 p),
-        duration-alike (get_or v 90 0) (get_or w 90 0) (get_or v 91 0) (get_or w 91 0) (same.at 90 tt) (λ p. same.at 91 p),
+        option-alike (get_or v 88 0) (get_or w 88 0) (get_or v 89 0) (get_or w 89 0) (same.at 88 tt) (λ p. same.at 89 p),
+        option-alike (get_or v 90 0) (get_or w 90 0) (get_or v 91 0) (get_or w 91 0) (same.at 90 tt) (λ p. same.at 91 p),
       )
 
   control-alike : control v ≡ control w
@@ -180,11 +189,11 @@ module _ (v w : List ℕ) (same : Agree v w) where
         trendline-alike,
         rate_control-alike,
         same.at 92 tt,
-        average-alike (get_or v 93 0) (get_or w 93 0) (get_or v 94 0) (get_or w 94 0) (same.at 93 tt) (λ p. same.at 94 p),
+        option-alike (get_or v 93 0) (get_or w 93 0) _ _ (same.at 93 tt) (λ p. ap (of_bits binary64) (same.at 94 p)),
         same.at 95 tt,
         same.at 96 tt,
         same.at 97 tt,
-        instant-alike (get_or v 98 0) (get_or w 98 0) (get_or v 99 0) (get_or w 99 0) (same.at 98 tt) (λ p. same.at 99 p),
+        option-alike (get_or v 98 0) (get_or w 98 0) (get_or v 99 0) (get_or w 99 0) (same.at 98 tt) (λ p. same.at 99 p),
       )
 
   -- words that agree where they are read load alike

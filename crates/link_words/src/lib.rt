@@ -14,7 +14,7 @@
 // variants from 0.
 #![tactic(auto)]
 
-ghost use Rattle.std.specs.Prelude.{◌≡◌, map, ◌+◌, ◌≤◌, length};
+ghost use Rattle.std.specs.Prelude.{◌≡◌, map, ◌+◌, ◌≤◌};
 ghost use Rattle.std.specs.Float.{binary64};
 ghost use Rattle.std.specs.Float.Ieee.{to_bits};
 ghost use Rattle.std.proofs.lemmas.List.Edits.{sets};
@@ -22,190 +22,48 @@ ghost use Rattle.link_words.specs.LinkWords as Words;
 
 use acked_bitrate_estimator::AckedBitrateEstimator;
 use arrival_group::{ArrivalGroup, ArrivalGroupAccumulator};
-use average::{MovingAverage};
+use average::MovingAverage;
 use bandwidth::{BandwidthUsage, Bitrate, DataSize};
 use control::DelayController;
+use float_bits::{from_bits, to_bits};
 use link_state::Link;
 use rate_control::{RateControl, State};
-use time::{TimeDelta};
+use time::TimeDelta;
 use trendline::{Delays, History, Overuse, TrendlineEstimator};
 
-// ---- a size in two's complement
-fn data_size(n: u64) -> DataSize
-    ensures { result ≡ Words.data_size n }
+// ---- values from their words
+// A value, or none by a tag of 0.
+fn option<T: Copy>(tag: u64, value: T) -> Option<T>
+    ensures { result ≡ Words.option tag value }
 {
-    if n <= 0x7fff_ffff_ffff_ffff {
-        return DataSize(n as i64);
-    }
-    DataSize(-1 - (0xffff_ffff_ffff_ffff - n) as i64)
+    (tag != 0).then_some(value)
 }
 
-fn data_size_bits(size: DataSize) -> u64
-    ensures { result ≡ Words.data_size_bits size }
+// An average whose words begin at `at`.
+fn load_average(words: &[u64; 100], at: usize) -> MovingAverage
+    requires { at + 5 ≤ 100 }
+    ensures { result ≡ Words.moving_average words.now at }
 {
-    let bytes = size.0;
-    if bytes >= 0 {
-        return bytes as u64;
-    }
-    0xffff_ffff_ffff_ffff - (-1 - bytes) as u64
-}
-
-// ---- enums from their words. A tag past the last counts as the last.
-fn instant(tag: u64, ns: u64) -> Option<u64>
-    ensures { result ≡ Words.instant tag ns }
-{
-    if tag == 0 {
-        return None;
-    }
-    Some(ns)
-}
-
-fn duration(tag: u64, ns: u64) -> Option<u64>
-    ensures { result ≡ Words.duration tag ns }
-{
-    if tag == 0 {
-        return None;
-    }
-    Some(ns)
-}
-
-fn bitrate(tag: u64, bits: u64) -> Option<Bitrate>
-    ensures { result ≡ Words.bitrate tag bits }
-{
-    if tag == 0 {
-        return None;
-    }
-    Some(Bitrate(float_bits::from_bits(bits)))
-}
-
-fn average(tag: u64, bits: u64) -> Option<f64>
-    ensures { result ≡ Words.average tag bits }
-{
-    if tag == 0 {
-        return None;
-    }
-    Some(float_bits::from_bits(bits))
-}
-
-fn moving_average(
-    smoothing_factor: u64,
-    tag: u64,
-    bits: u64,
-    variance: u64,
-    std: u64,
-) -> MovingAverage
-    ensures { result ≡ Words.moving_average smoothing_factor tag bits variance std }
-{
-    let average = average(tag, bits);
     MovingAverage {
-        smoothing_factor: float_bits::from_bits(smoothing_factor),
-        average,
-        variance: float_bits::from_bits(variance),
-        std: float_bits::from_bits(std),
+        smoothing_factor: from_bits(words[at]),
+        average: option(words[at + 1], from_bits(words[at + 2])),
+        variance: from_bits(words[at + 3]),
+        std: from_bits(words[at + 4]),
     }
 }
 
-fn group(
-    tag: u64,
-    first_local_send_time: u64,
-    first_remote_recv_time: u64,
-    last_local_send_time: u64,
-    last_remote_recv_time: u64,
-) -> Option<ArrivalGroup>
-    ensures { result ≡ Words.group tag first_local_send_time first_remote_recv_time last_local_send_time last_remote_recv_time }
+// A group whose words begin at `at`.
+fn load_group(words: &[u64; 100], at: usize) -> Option<ArrivalGroup>
+    requires { at + 5 ≤ 100 }
+    ensures { result ≡ Words.group words.now at }
 {
-    if tag == 0 {
-        return None;
-    }
-    Some(ArrivalGroup {
-        first_local_send_time,
-        first_remote_recv_time,
-        last_local_send_time,
-        last_remote_recv_time,
-    })
-}
-
-fn time_delta(tag: u64, ns: u64) -> TimeDelta
-    ensures { result ≡ Words.time_delta tag ns }
-{
-    if tag == 0 {
-        return TimeDelta::NegativeInfinity;
-    }
-    if tag == 1 {
-        return TimeDelta::Negative(ns);
-    }
-    if tag == 2 {
-        return TimeDelta::Positive(ns);
-    }
-    TimeDelta::PositiveInfinity
-}
-
-fn overuse(tag: u64, count: u64, time_tag: u64, ns: u64) -> Option<Overuse>
-    ensures { result ≡ Words.overuse tag count time_tag ns }
-{
-    if tag == 0 {
-        return None;
-    }
-    let time_overusing = time_delta(time_tag, ns);
-    Some(Overuse {
-        count,
-        time_overusing,
-    })
-}
-
-fn hypothesis(tag: u64) -> BandwidthUsage
-    ensures { result ≡ Words.hypothesis tag }
-{
-    if tag == 0 {
-        return BandwidthUsage::Overuse;
-    }
-    if tag == 1 {
-        return BandwidthUsage::Normal;
-    }
-    BandwidthUsage::Underuse
-}
-
-fn state(tag: u64) -> State
-    ensures { result ≡ Words.state tag }
-{
-    if tag == 0 {
-        return State::Increase;
-    }
-    if tag == 1 {
-        return State::Hold;
-    }
-    State::Decrease
-}
-
-// ---- parts from their words
-fn load_acked(words: &[u64; 100]) -> AckedBitrateEstimator
-    ensures { result ≡ Words.acked words.now }
-{
-    let estimate = bitrate(words[3], words[4]);
-    let last_update = instant(words[8], words[9]);
-    let sum = data_size(words[6]);
-    AckedBitrateEstimator {
-        initial_window: words[1],
-        window: words[2],
-        estimate,
-        estimate_var: float_bits::from_bits(words[5]),
-        sum,
-        current_window: words[7],
-        last_update,
-    }
-}
-
-fn load_groups(words: &[u64; 100]) -> ArrivalGroupAccumulator
-    ensures { result ≡ Words.groups words.now }
-{
-    let send_time_origin = instant(words[10], words[11]);
-    let previous_group = group(words[12], words[13], words[14], words[15], words[16]);
-    let current_group = group(words[17], words[18], words[19], words[20], words[21]);
-    ArrivalGroupAccumulator {
-        send_time_origin,
-        previous_group,
-        current_group,
-    }
+    let group = ArrivalGroup {
+        first_local_send_time: words[at + 1],
+        first_remote_recv_time: words[at + 2],
+        last_local_send_time: words[at + 3],
+        last_remote_recv_time: words[at + 4],
+    };
+    option(words[at], group)
 }
 
 // The 20 floats from a word on.
@@ -213,108 +71,153 @@ fn load_floats(words: &[u64; 100], at: usize) -> [f64; 20]
     requires { at + 20 ≤ 100 }
     ensures { result ≡ Words.floats words.now at 20 }
 {
-    let mut floats = [0.0; 20];
-    let mut i = 0;
-    while i < 20 {
-        floats[i] = float_bits::from_bits(words[at + i]);
-        i += 1;
-    }
-    floats
+    std::array::from_fn(|i| from_bits(words[at + i]))
 }
 
+// A tag past an enum's last counts as the last.
+fn time_delta(tag: u64, ns: u64) -> TimeDelta
+    ensures { result ≡ Words.time_delta tag ns }
+{
+    match tag {
+        0 => TimeDelta::NegativeInfinity,
+        1 => TimeDelta::Negative(ns),
+        2 => TimeDelta::Positive(ns),
+        _ => TimeDelta::PositiveInfinity,
+    }
+}
+
+fn hypothesis(tag: u64) -> BandwidthUsage
+    ensures { result ≡ Words.hypothesis tag }
+{
+    match tag {
+        0 => BandwidthUsage::Overuse,
+        1 => BandwidthUsage::Normal,
+        _ => BandwidthUsage::Underuse,
+    }
+}
+
+fn state(tag: u64) -> State
+    ensures { result ≡ Words.state tag }
+{
+    match tag {
+        0 => State::Increase,
+        1 => State::Hold,
+        _ => State::Decrease,
+    }
+}
+
+// ---- parts from their words
+#[tactic(auto, unfolding(crate::specs::LinkWords::acked))]
+fn load_acked(words: &[u64; 100]) -> AckedBitrateEstimator
+    ensures { result ≡ Words.acked words.now }
+{
+    AckedBitrateEstimator {
+        initial_window: words[1],
+        window: words[2],
+        estimate: option(words[3], Bitrate(from_bits(words[4]))),
+        estimate_var: from_bits(words[5]),
+        sum: DataSize(words[6].cast_signed()),
+        current_window: words[7],
+        last_update: option(words[8], words[9]),
+    }
+}
+
+#[tactic(auto, unfolding(crate::specs::LinkWords::groups))]
+fn load_groups(words: &[u64; 100]) -> ArrivalGroupAccumulator
+    ensures { result ≡ Words.groups words.now }
+{
+    ArrivalGroupAccumulator {
+        send_time_origin: option(words[10], words[11]),
+        previous_group: load_group(words, 12),
+        current_group: load_group(words, 17),
+    }
+}
+
+#[tactic(auto, unfolding(crate::specs::LinkWords::history))]
 fn load_history(words: &[u64; 100]) -> History
     ensures { result ≡ Words.history words.now }
 {
-    let times = load_floats(words, 24);
-    let delays = load_floats(words, 44);
     History {
-        times,
-        delays,
+        times: load_floats(words, 24),
+        delays: load_floats(words, 44),
         len: words[64] as usize,
     }
 }
 
+#[tactic(auto, unfolding(crate::specs::LinkWords::delays))]
 fn load_delays(words: &[u64; 100]) -> Delays
     ensures { result ≡ Words.delays words.now }
 {
     Delays {
         num_delay_variations: words[65],
-        accumulated_delay: float_bits::from_bits(words[66]),
-        smoothed_delay: float_bits::from_bits(words[67]),
-        delay_threshold: float_bits::from_bits(words[68]),
-        previous_trend: float_bits::from_bits(words[69]),
+        accumulated_delay: from_bits(words[66]),
+        smoothed_delay: from_bits(words[67]),
+        delay_threshold: from_bits(words[68]),
+        previous_trend: from_bits(words[69]),
     }
 }
 
+#[tactic(auto, unfolding(crate::specs::LinkWords::trendline))]
 fn load_trendline(words: &[u64; 100]) -> TrendlineEstimator
     ensures { result ≡ Words.trendline words.now }
 {
-    let zero_time = instant(words[22], words[23]);
-    let history = load_history(words);
-    let delays = load_delays(words);
-    let overuse = overuse(words[70], words[71], words[72], words[73]);
-    let last_threshold_update = instant(words[74], words[75]);
-    let hypothesis = hypothesis(words[76]);
+    let overuse = Overuse {
+        count: words[71],
+        time_overusing: time_delta(words[72], words[73]),
+    };
     TrendlineEstimator {
-        zero_time,
-        history,
-        delays,
-        overuse,
-        last_threshold_update,
-        hypothesis,
+        zero_time: option(words[22], words[23]),
+        history: load_history(words),
+        delays: load_delays(words),
+        overuse: option(words[70], overuse),
+        last_threshold_update: option(words[74], words[75]),
+        hypothesis: hypothesis(words[76]),
     }
 }
 
+#[tactic(auto, unfolding(crate::specs::LinkWords::rate_control))]
 fn load_rate_control(words: &[u64; 100]) -> RateControl
     ensures { result ≡ Words.rate_control words.now }
 {
-    let state = state(words[77]);
-    let last_observed_bitrate = bitrate(words[81], words[82]);
-    let averaged_observed_bitrate = moving_average(
-        words[83], words[84], words[85], words[86], words[87],
-    );
-    let last_estimate_update = instant(words[88], words[89]);
-    let last_rtt = duration(words[90], words[91]);
     RateControl {
-        state,
-        estimated_bitrate: Bitrate(float_bits::from_bits(words[78])),
-        min_bitrate: Bitrate(float_bits::from_bits(words[79])),
-        max_bitrate: Bitrate(float_bits::from_bits(words[80])),
-        last_observed_bitrate,
-        averaged_observed_bitrate,
-        last_estimate_update,
-        last_rtt,
+        state: state(words[77]),
+        estimated_bitrate: Bitrate(from_bits(words[78])),
+        min_bitrate: Bitrate(from_bits(words[79])),
+        max_bitrate: Bitrate(from_bits(words[80])),
+        last_observed_bitrate: option(words[81], Bitrate(from_bits(words[82]))),
+        averaged_observed_bitrate: load_average(words, 83),
+        last_estimate_update: option(words[88], words[89]),
+        last_rtt: option(words[90], words[91]),
     }
 }
 
+#[tactic(auto, unfolding(crate::specs::LinkWords::control))]
 fn load_control(words: &[u64; 100]) -> DelayController
     ensures { result ≡ Words.control words.now }
 {
-    let arrival_group_accumulator = load_groups(words);
-    let trendline_estimator = load_trendline(words);
-    let rate_control = load_rate_control(words);
-    let smoothed_rtt = moving_average(words[92], words[93], words[94], words[95], words[96]);
-    let last_twcc_report = instant(words[98], words[99]);
     DelayController {
-        arrival_group_accumulator,
-        trendline_estimator,
-        rate_control,
-        smoothed_rtt,
+        arrival_group_accumulator: load_groups(words),
+        trendline_estimator: load_trendline(words),
+        rate_control: load_rate_control(words),
+        smoothed_rtt: load_average(words, 92),
         next_timeout: words[97],
-        last_twcc_report,
+        last_twcc_report: option(words[98], words[99]),
     }
 }
 
 // The link that the words hold, whatever they are.
+#[tactic(auto, unfolding(crate::specs::LinkWords::of_words))]
 pub fn load(words: &[u64; 100]) -> Link
     ensures { result ≡ Words.of_words words.now }
 {
-    let acked = load_acked(words);
-    let control = load_control(words);
-    Link { acked, control }
+    Link {
+        acked: load_acked(words),
+        control: load_control(words),
+    }
 }
 
 // Whether the words are a link's in this format: word 0, and each tag that is read one of its values. Whether the link is in range is question 1's.
+// Tests in a row, not `all` over a list of the tags' places: with it the goal `returns` was tried and stayed open.
 pub fn formed(words: &[u64; 100]) -> bool
     ensures { result ≡ Words.formed words.now }
 {
@@ -338,101 +241,11 @@ pub fn formed(words: &[u64; 100]) -> bool
         & (words[98] <= 1)
 }
 
-// ---- words of enums
-fn instant_tag(t: Option<u64>) -> u64
-    ensures { result ≡ Words.instant_tag t }
+// ---- words of values
+fn tag<T: Copy>(value: Option<T>) -> u64
+    ensures { result ≡ Words.tag value }
 {
-    match t {
-        None => 0,
-        Some(_) => 1,
-    }
-}
-
-fn instant_ns(t: Option<u64>) -> u64
-    ensures { result ≡ Words.instant_ns t }
-{
-    match t {
-        None => 0,
-        Some(ns) => ns,
-    }
-}
-
-fn duration_tag(d: Option<u64>) -> u64
-    ensures { result ≡ Words.duration_tag d }
-{
-    match d {
-        None => 0,
-        Some(_) => 1,
-    }
-}
-
-fn duration_ns(d: Option<u64>) -> u64
-    ensures { result ≡ Words.duration_ns d }
-{
-    match d {
-        None => 0,
-        Some(ns) => ns,
-    }
-}
-
-fn bitrate_tag(rate: Option<Bitrate>) -> u64
-    ensures { result ≡ Words.bitrate_tag rate }
-{
-    match rate {
-        None => 0,
-        Some(_) => 1,
-    }
-}
-
-fn bitrate_bits(rate: Option<Bitrate>) -> u64
-    ensures { result ≡ Words.bitrate_bits rate }
-{
-    match rate {
-        None => 0,
-        Some(x) => float_bits::to_bits(x.0),
-    }
-}
-
-fn average_tag(average: Option<f64>) -> u64
-    ensures { result ≡ Words.average_tag average }
-{
-    match average {
-        None => 0,
-        Some(_) => 1,
-    }
-}
-
-fn average_bits(average: Option<f64>) -> u64
-    ensures { result ≡ Words.average_bits average }
-{
-    match average {
-        None => 0,
-        Some(x) => float_bits::to_bits(x),
-    }
-}
-
-fn group_tag(group: Option<ArrivalGroup>) -> u64
-    ensures { result ≡ Words.group_tag group }
-{
-    match group {
-        None => 0,
-        Some(_) => 1,
-    }
-}
-
-// A group's instants, each 0 where there is none.
-fn group_times(group: Option<ArrivalGroup>) -> ArrivalGroup
-    ensures { result ≡ Words.group_times group }
-{
-    match group {
-        None => ArrivalGroup {
-            first_local_send_time: 0,
-            first_remote_recv_time: 0,
-            last_local_send_time: 0,
-            last_remote_recv_time: 0,
-        },
-        Some(g) => g,
-    }
+    value.is_some() as u64
 }
 
 fn time_tag(time: TimeDelta) -> u64
@@ -457,122 +270,87 @@ fn time_ns(time: TimeDelta) -> u64
     }
 }
 
-fn overuse_tag(overuse: Option<Overuse>) -> u64
-    ensures { result ≡ Words.overuse_tag overuse }
+// An average's words from `at` on.
+fn store_average(words: &mut [u64; 100], at: usize, average: MovingAverage)
+    requires { at + 5 ≤ 100 }
+    ensures { words.new ≡ sets words.old at (Words.average_words average) }
 {
-    match overuse {
-        None => 0,
-        Some(_) => 1,
-    }
+    words[at] = to_bits(average.smoothing_factor);
+    words[at + 1] = tag(average.average);
+    words[at + 2] = average.average.map_or(0, to_bits);
+    words[at + 3] = to_bits(average.variance);
+    words[at + 4] = to_bits(average.std);
 }
 
-// An overuse, or one whose words are 0.
-fn overuse_values(overuse: Option<Overuse>) -> Overuse
-    ensures { result ≡ Words.overuse_values overuse }
+// A group's words from `at` on.
+fn store_group(words: &mut [u64; 100], at: usize, group: Option<ArrivalGroup>)
+    requires { at + 5 ≤ 100 }
+    ensures { words.new ≡ sets words.old at (Words.group_words group) }
 {
-    match overuse {
-        None => Overuse {
-            count: 0,
-            time_overusing: TimeDelta::NegativeInfinity,
-        },
-        Some(o) => o,
-    }
-}
-
-fn hypothesis_tag(hypothesis: BandwidthUsage) -> u64
-    ensures { result ≡ Words.hypothesis_tag hypothesis }
-{
-    match hypothesis {
-        BandwidthUsage::Overuse => 0,
-        BandwidthUsage::Normal => 1,
-        BandwidthUsage::Underuse => 2,
-    }
-}
-
-fn state_tag(state: State) -> u64
-    ensures { result ≡ Words.state_tag state }
-{
-    match state {
-        State::Increase => 0,
-        State::Hold => 1,
-        State::Decrease => 2,
-    }
-}
-
-// ---- words of parts
-fn store_acked(words: &mut [u64; 100], a: AckedBitrateEstimator)
-    ensures { words.new ≡ sets words.old 1 (Words.acked_words a) }
-{
-    let estimate = a.estimate;
-    let sum = a.sum;
-    let last_update = a.last_update;
-    words[1] = a.initial_window;
-    words[2] = a.window;
-    words[3] = bitrate_tag(estimate);
-    words[4] = bitrate_bits(estimate);
-    words[5] = float_bits::to_bits(a.estimate_var);
-    words[6] = data_size_bits(sum);
-    words[7] = a.current_window;
-    words[8] = instant_tag(last_update);
-    words[9] = instant_ns(last_update);
-}
-
-fn store_groups(words: &mut [u64; 100], a: ArrivalGroupAccumulator)
-    ensures { words.new ≡ sets words.old 10 (Words.groups_words a) }
-{
-    let origin = a.send_time_origin;
-    let previous_group = a.previous_group;
-    let current_group = a.current_group;
-    let previous = group_times(previous_group);
-    let current = group_times(current_group);
-    words[10] = instant_tag(origin);
-    words[11] = instant_ns(origin);
-    words[12] = group_tag(previous_group);
-    words[13] = previous.first_local_send_time;
-    words[14] = previous.first_remote_recv_time;
-    words[15] = previous.last_local_send_time;
-    words[16] = previous.last_remote_recv_time;
-    words[17] = group_tag(current_group);
-    words[18] = current.first_local_send_time;
-    words[19] = current.first_remote_recv_time;
-    words[20] = current.last_local_send_time;
-    words[21] = current.last_remote_recv_time;
+    let times = group.unwrap_or(ArrivalGroup::new(0, 0));
+    words[at] = tag(group);
+    words[at + 1] = times.first_local_send_time;
+    words[at + 2] = times.first_remote_recv_time;
+    words[at + 3] = times.last_local_send_time;
+    words[at + 4] = times.last_remote_recv_time;
 }
 
 // The bits of 20 floats from a word on.
 fn store_floats(words: &mut [u64; 100], at: usize, floats: [f64; 20])
     requires { at + 20 ≤ 100 }
-    ensures words_after { words.new ≡ sets words.old at (map (to_bits binary64) floats) }
-    ensures floats_len { length floats ≡ 20 }
+    ensures { words.new ≡ sets words.old at (map (to_bits binary64) floats) }
 {
-    let mut i = 0;
-    while i < 20 {
-        words[at + i] = float_bits::to_bits(floats[i]);
-        i += 1;
+    for (i, x) in floats.iter().enumerate() {
+        words[at + i] = to_bits(*x);
     }
 }
 
+// ---- words of parts
+#[tactic(auto, unfolding(crate::specs::LinkWords::acked_words))]
+fn store_acked(words: &mut [u64; 100], a: AckedBitrateEstimator)
+    ensures { words.new ≡ sets words.old 1 (Words.acked_words a) }
+{
+    words[1] = a.initial_window;
+    words[2] = a.window;
+    words[3] = tag(a.estimate);
+    words[4] = a.estimate.map_or(0, |rate| to_bits(rate.0));
+    words[5] = to_bits(a.estimate_var);
+    words[6] = a.sum.0.cast_unsigned();
+    words[7] = a.current_window;
+    words[8] = tag(a.last_update);
+    words[9] = a.last_update.unwrap_or(0);
+}
+
+#[tactic(auto, unfolding(crate::specs::LinkWords::groups_words))]
+fn store_groups(words: &mut [u64; 100], a: ArrivalGroupAccumulator)
+    ensures { words.new ≡ sets words.old 10 (Words.groups_words a) }
+{
+    words[10] = tag(a.send_time_origin);
+    words[11] = a.send_time_origin.unwrap_or(0);
+    store_group(words, 12, a.previous_group);
+    store_group(words, 17, a.current_group);
+}
+
+fn store_history(words: &mut [u64; 100], h: History)
+    ensures { words.new ≡ sets words.old 24 (Words.history_words h) }
+{
+    store_floats(words, 24, h.times);
+    store_floats(words, 44, h.delays);
+    words[64] = h.len as u64;
+}
+
+#[tactic(auto, unfolding(crate::specs::LinkWords::delays_words))]
 fn store_delays(words: &mut [u64; 100], d: Delays)
     ensures { words.new ≡ sets words.old 65 (Words.delays_words d) }
 {
     words[65] = d.num_delay_variations;
-    words[66] = float_bits::to_bits(d.accumulated_delay);
-    words[67] = float_bits::to_bits(d.smoothed_delay);
-    words[68] = float_bits::to_bits(d.delay_threshold);
-    words[69] = float_bits::to_bits(d.previous_trend);
+    words[66] = to_bits(d.accumulated_delay);
+    words[67] = to_bits(d.smoothed_delay);
+    words[68] = to_bits(d.delay_threshold);
+    words[69] = to_bits(d.previous_trend);
 }
 
-fn store_history(words: &mut [u64; 100], h: History)
-    ensures words_after { words.new ≡ sets words.old 24 (Words.history_words h) }
-    ensures h_len { length (Words.history_words h) ≡ 41 }
-{
-    let times = h.times;
-    let delays = h.delays;
-    store_floats(words, 24, times);
-    store_floats(words, 44, delays);
-    words[64] = h.len as u64;
-}
-
+#[tactic(auto, unfolding(crate::specs::LinkWords::overuse_words))]
 fn store_overuse(
     words: &mut [u64; 100],
     overuse: Option<Overuse>,
@@ -581,118 +359,73 @@ fn store_overuse(
 )
     ensures { words.new ≡ sets words.old 70 (Words.overuse_words overuse last_threshold_update hypothesis) }
 {
-    let values = overuse_values(overuse);
-    let time = values.time_overusing;
-    words[70] = overuse_tag(overuse);
+    let values = overuse.unwrap_or(Overuse {
+        count: 0,
+        time_overusing: TimeDelta::NegativeInfinity,
+    });
+    words[70] = tag(overuse);
     words[71] = values.count;
-    words[72] = time_tag(time);
-    words[73] = time_ns(time);
-    words[74] = instant_tag(last_threshold_update);
-    words[75] = instant_ns(last_threshold_update);
-    words[76] = hypothesis_tag(hypothesis);
+    words[72] = time_tag(values.time_overusing);
+    words[73] = time_ns(values.time_overusing);
+    words[74] = tag(last_threshold_update);
+    words[75] = last_threshold_update.unwrap_or(0);
+    words[76] = hypothesis as u64;
 }
 
 fn store_trendline(words: &mut [u64; 100], t: TrendlineEstimator)
-    ensures words_after { words.new ≡ sets words.old 22 (Words.trendline_words t) }
-    ensures t_len { length (Words.trendline_words t) ≡ 55 }
+    ensures { words.new ≡ sets words.old 22 (Words.trendline_words t) }
 {
-    let zero_time = t.zero_time;
-    let history = t.history;
-    let delays = t.delays;
-    let overuse = t.overuse;
-    let last = t.last_threshold_update;
-    let hypothesis = t.hypothesis;
-    words[22] = instant_tag(zero_time);
-    words[23] = instant_ns(zero_time);
-    store_history(words, history);
-    store_delays(words, delays);
-    store_overuse(words, overuse, last, hypothesis);
+    words[22] = tag(t.zero_time);
+    words[23] = t.zero_time.unwrap_or(0);
+    store_history(words, t.history);
+    store_delays(words, t.delays);
+    store_overuse(words, t.overuse, t.last_threshold_update, t.hypothesis);
 }
 
+#[tactic(auto, unfolding(crate::specs::LinkWords::rate_control_words))]
 fn store_rate_control(words: &mut [u64; 100], c: RateControl)
     ensures { words.new ≡ sets words.old 77 (Words.rate_control_words c) }
 {
-    let state = c.state;
-    let estimated = c.estimated_bitrate;
-    let min = c.min_bitrate;
-    let max = c.max_bitrate;
-    let observed = c.last_observed_bitrate;
-    let averaged = c.averaged_observed_bitrate;
-    let average = averaged.average;
-    let last = c.last_estimate_update;
-    let rtt = c.last_rtt;
-    words[77] = state_tag(state);
-    words[78] = float_bits::to_bits(estimated.0);
-    words[79] = float_bits::to_bits(min.0);
-    words[80] = float_bits::to_bits(max.0);
-    words[81] = bitrate_tag(observed);
-    words[82] = bitrate_bits(observed);
-    words[83] = float_bits::to_bits(averaged.smoothing_factor);
-    words[84] = average_tag(average);
-    words[85] = average_bits(average);
-    words[86] = float_bits::to_bits(averaged.variance);
-    words[87] = float_bits::to_bits(averaged.std);
-    words[88] = instant_tag(last);
-    words[89] = instant_ns(last);
-    words[90] = duration_tag(rtt);
-    words[91] = duration_ns(rtt);
-}
-
-fn store_round_trip(
-    words: &mut [u64; 100],
-    rtt: MovingAverage,
-    next_timeout: u64,
-    last_twcc_report: Option<u64>,
-)
-    ensures { words.new ≡ sets words.old 92 (Words.round_trip_words rtt next_timeout last_twcc_report) }
-{
-    let average = rtt.average;
-    words[92] = float_bits::to_bits(rtt.smoothing_factor);
-    words[93] = average_tag(average);
-    words[94] = average_bits(average);
-    words[95] = float_bits::to_bits(rtt.variance);
-    words[96] = float_bits::to_bits(rtt.std);
-    words[97] = next_timeout;
-    words[98] = instant_tag(last_twcc_report);
-    words[99] = instant_ns(last_twcc_report);
+    words[77] = c.state as u64;
+    words[78] = to_bits(c.estimated_bitrate.0);
+    words[79] = to_bits(c.min_bitrate.0);
+    words[80] = to_bits(c.max_bitrate.0);
+    words[81] = tag(c.last_observed_bitrate);
+    words[82] = c.last_observed_bitrate.map_or(0, |rate| to_bits(rate.0));
+    store_average(words, 83, c.averaged_observed_bitrate);
+    words[88] = tag(c.last_estimate_update);
+    words[89] = c.last_estimate_update.unwrap_or(0);
+    words[90] = tag(c.last_rtt);
+    words[91] = c.last_rtt.unwrap_or(0);
 }
 
 fn store_control(words: &mut [u64; 100], c: DelayController)
-    ensures words_after { words.new ≡ sets words.old 10 (Words.control_words c) }
-    ensures c_len { length (Words.control_words c) ≡ 90 }
+    ensures { words.new ≡ sets words.old 10 (Words.control_words c) }
 {
-    let groups = c.arrival_group_accumulator;
-    let trendline = c.trendline_estimator;
-    let rate_control = c.rate_control;
-    let rtt = c.smoothed_rtt;
-    let last = c.last_twcc_report;
-    store_groups(words, groups);
-    store_trendline(words, trendline);
-    store_rate_control(words, rate_control);
-    store_round_trip(words, rtt, c.next_timeout, last);
+    store_groups(words, c.arrival_group_accumulator);
+    store_trendline(words, c.trendline_estimator);
+    store_rate_control(words, c.rate_control);
+    store_average(words, 92, c.smoothed_rtt);
+    words[97] = c.next_timeout;
+    words[98] = tag(c.last_twcc_report);
+    words[99] = c.last_twcc_report.unwrap_or(0);
 }
-
-// Does nothing: that lent words are 100 is known of their value only.
-fn sized(words: [u64; 100])
-    ensures { length words ≡ 100 }
-{}
 
 // Stores a link's two parts, whatever the words were.
 pub fn store(words: &mut [u64; 100], acked: AckedBitrateEstimator, control: DelayController)
     ensures { words.new ≡ Words.to_words (record { acked = acked; control = control }) }
 {
-    sized(*words);
     words[0] = 1;
     store_acked(words, acked);
     store_control(words, control);
 }
 
 // Stores what a timeout changes of a link, its rate control and its next timeout. The other words stay.
+#[tactic(auto, unfolding(crate::specs::LinkWords::timeout_words))]
 pub fn store_timeout(words: &mut [u64; 100], control: DelayController)
     ensures { words.new ≡ Words.timeout_words control words.old }
 {
-    let rate_control = control.rate_control;
-    store_rate_control(words, rate_control);
+    store_rate_control(words, control.rate_control);
     words[97] = control.next_timeout;
 }
 
@@ -700,9 +433,7 @@ pub fn store_timeout(words: &mut [u64; 100], control: DelayController)
 pub fn words(link: Link) -> [u64; 100]
     ensures { result ≡ Words.to_words link }
 {
-    let acked = link.acked;
-    let control = link.control;
     let mut words = [0u64; 100];
-    store(&mut words, acked, control);
+    store(&mut words, link.acked, link.control);
     words
 }
