@@ -77,8 +77,8 @@ impl Window {
             return None;
         }
         Some(Sample {
-            rate: self.sum.div(window),
-            is_small: self.sum.lt(AckedBitrateEstimator::SMALL_SAMPLE_THRESHOLD),
+            rate: self.sum / window,
+            is_small: self.sum < AckedBitrateEstimator::SMALL_SAMPLE_THRESHOLD,
         })
     }
 
@@ -88,12 +88,12 @@ impl Window {
     {
         if self.elapsed < window {
             return Window {
-                sum: self.sum.add(size),
+                sum: self.sum + size,
                 ..self
             };
         }
         Window {
-            sum: DataSize::ZERO.add(size),
+            sum: DataSize::ZERO + size,
             elapsed: self.elapsed - window,
         }
     }

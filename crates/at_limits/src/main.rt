@@ -543,7 +543,7 @@ fn instants(rt: &impl Print, a: u64, b: u64) -> io::Result<()> {
 }
 
 fn sum(rt: &impl Print, a: i64, b: i64, expected: i64) -> io::Result<()> {
-    yes_or_no(rt, DataSize(a).add(DataSize(b)).0 == expected)
+    yes_or_no(rt, (DataSize(a) + DataSize(b)).0 == expected)
 }
 
 // The order of two packets, and entries of which the third is past the end: 0 after the last.

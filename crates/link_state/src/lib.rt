@@ -56,8 +56,8 @@ fn duration_in(d: Option<u64>) -> bool
 fn sum_in(sum: DataSize, elapsed: u64) -> bool
     ensures { result ≡ State.sum_in sum elapsed }
 {
-    let below = sum.lt(DataSize::ZERO);
-    let some = DataSize::ZERO.lt(sum);
+    let below = sum < DataSize::ZERO;
+    let some = DataSize::ZERO < sum;
     !below & questions::bytes_in(sum) & (some | (elapsed == 0))
 }
 
@@ -228,7 +228,7 @@ fn rate_control_in(c: RateControl) -> bool
     let average = c.averaged_observed_bitrate;
     let last = c.last_estimate_update;
     let rtt = c.last_rtt;
-    let limits = low.eq(Bitrate::MIN_ESTIMATE) & high.eq(Bitrate::MAX_ESTIMATE);
+    let limits = (low == Bitrate::MIN_ESTIMATE) & (high == Bitrate::MAX_ESTIMATE);
     let rate = estimate.within(Bitrate::MIN_ESTIMATE, Bitrate::MAX_ESTIMATE);
     let observed = average_in(
         average,

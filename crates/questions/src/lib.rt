@@ -188,7 +188,7 @@ pub fn report(
 pub fn bytes_in(sum: DataSize) -> bool
     ensures { result ≡ Questions.bytes_in sum }
 {
-    !DataSize::MOST.lt(sum)
+    !(DataSize::MOST < sum)
 }
 
 // ---- timeout: 7

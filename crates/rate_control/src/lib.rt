@@ -185,7 +185,7 @@ impl RateControl {
         if reduction_interval(rtt) <= now.saturating_sub(last_change) {
             return true;
         }
-        observed_bitrate.lt(self.estimated_bitrate.mul(0.5))
+        observed_bitrate < self.estimated_bitrate * 0.5
     }
 
     fn is_near_convergence(self) -> bool
@@ -259,10 +259,10 @@ impl RateControl {
     fn decrease(self, observed_bitrate: Bitrate, now: u64) -> Self
         ensures { result ≡ Rate.decrease self observed_bitrate now }
     {
-        let new_estimate = observed_bitrate.mul(Self::BETA);
+        let new_estimate = observed_bitrate * Self::BETA;
         let estimated_bitrate = self.estimated_bitrate;
         let held = self.with_state(State::Hold);
-        if estimated_bitrate.lt(new_estimate) {
+        if estimated_bitrate < new_estimate {
             return held.update_estimate(estimated_bitrate, now);
         }
         held.update_estimate(new_estimate, now)

@@ -93,8 +93,8 @@ pub fn bandwidth_words(i: Case) -> [u64; 6] {
         let b = rate(i.b);
         return [
             rate_bits(a.clamp(rate(i.c), rate(i.d))),
-            rate_bits(a.mul(b.as_f64())),
-            a.lt(b) as u64,
+            rate_bits(a * b.as_f64()),
+            (a < b) as u64,
             rate_bits(Bitrate::bps(i.e)),
             0,
             0,
@@ -104,9 +104,9 @@ pub fn bandwidth_words(i: Case) -> [u64; 6] {
     let b = size(i.b);
     [
         float_bits::to_bits(a.as_bytes_f64()),
-        a.lt(b) as u64,
-        a.add(b).lt(size(i.c)) as u64,
-        rate_bits(a.div(i.d)),
+        (a < b) as u64,
+        (a + b < size(i.c)) as u64,
+        rate_bits(a / i.d),
         0,
         0,
     ]

@@ -1,4 +1,5 @@
 -- `RateControl::time_to_reduce_further` meets its contract, by whether there was a change before and how long ago.
+use Rattle.bandwidth.specs.Order.{rate-below}
 use Rattle.rate_control.specs.RateControl.{time_to_reduce_further}
 use borrow.Author.Tests.{le-leb, lt-leb}
 use Rattle.rate_control.proofs.RateControl.time_to_reduce_further.Goals as goal
@@ -13,4 +14,4 @@ returns-then-reduction_interval-saturating_sub c = simp (le-leb _ _ c.if-reducti
 
 pub returns : goal.returns
 unfolding time_to_reduce_further
-returns c = simp (c.lt.ensures, c.mul.ensures, lt-leb _ _ c.if-reduction_interval-saturating_sub.false, ← c.saturating_sub.ensures, ← c.reduction_interval.ensures, ← c.unwrap_or-rtt.ensures, c.in-Some.is)
+returns c = simp (c.lt.ensures, rate-below, c.mul.ensures, lt-leb _ _ c.if-reduction_interval-saturating_sub.false, ← c.saturating_sub.ensures, ← c.reduction_interval.ensures, ← c.unwrap_or-rtt.ensures, c.in-Some.is)
