@@ -1,5 +1,5 @@
 -- src/bwe/acked_bitrate_estimator.rs: what a packet does to the acknowledged rate, step by step, each float operation rounded once. Times are ns.
-use Rattle.std.specs.Prelude.{◌≡◌, ℕ, ◌-◌, ◌*◌, ◌/◌, ◌%◌, Bool, cond, ◌&&◌, pos, ◌==◌, nat_le, nat_lt, Float}
+use Rattle.std.specs.Prelude.{◌≡◌, ℕ, ◌-◌, ◌*◌, ◌/◌, ◌%◌, Bool, cond, ◌&&◌, pos, ◌==◌, nat_le, nat_lt, Float, Option, Some, None}
 use Rattle.std.specs.Float.Ieee as Ieee
 use Rattle.std.specs.Float.{binary64}
 use Rattle.std.specs.Float.Ieee.{of_int, to_unsigned}
@@ -10,16 +10,11 @@ use Rattle.float.specs.Float.{abs, max, ceil}
 use Rattle.bandwidth.specs.Bandwidth as B
 use Rattle.bandwidth.specs.declared.Bitrate.{Bitrate}
 use Rattle.bandwidth.specs.declared.DataSize.{DataSize}
-use Rattle.bandwidth.specs.declared.OptionBitrate.{OptionBitrate}
-use Rattle.bandwidth.specs.declared.OptionBitrate.TheVariants as Rate
 use Rattle.time.specs.Time.{saturating_add}
-use Rattle.time.specs.declared.OptionInstant.{OptionInstant}
-use Rattle.time.specs.declared.OptionInstant.TheVariants as Instant
 use Rattle.acked_bitrate_estimator.specs.declared.AckedBitrateEstimator.{AckedBitrateEstimator}
 use Rattle.acked_bitrate_estimator.specs.declared.Window.{Window}
 use Rattle.acked_bitrate_estimator.specs.declared.Weighed.{Weighed}
-use Rattle.acked_bitrate_estimator.specs.declared.OptionSample.{OptionSample}
-use Rattle.acked_bitrate_estimator.specs.declared.OptionSample.TheVariants as Sample
+use Rattle.acked_bitrate_estimator.specs.declared.Sample.{Sample}
 
 -- ---- constants, by their Rust names
 abbrev pub small_sample_threshold : DataSize
@@ -64,11 +59,11 @@ new initial window =
     record {
       initial_window = initial;
       window = window;
-      estimate = Rate.None;
+      estimate = None;
       estimate_var = initial_estimate_var;
       sum = none;
       current_window = 0;
-      last_update = Instant.None;
+      last_update = None;
     }
 
 -- ---- the window
@@ -82,8 +77,9 @@ advance w gap window =
     cond (nat_le window gap) (record { sum = none; elapsed = remaining elapsed window }) (record { sum = w.sum; elapsed = elapsed })
 
 -- a full window gives a sample, and says whether it is small
-unfoldable pub sample : Window → ℕ → OptionSample
-sample w window = cond (nat_lt w.elapsed window) Sample.None (Sample.Some (B.per_duration w.sum window) (B.less w.sum small_sample_threshold))
+unfoldable pub sample : Window → ℕ → Option Sample
+sample w window =
+    cond (nat_lt w.elapsed window) None (Some (record { rate = B.per_duration w.sum window; is_small = B.less w.sum small_sample_threshold }))
 
 -- and starts anew; then the packet's size is added
 unfoldable pub with_packet : Window → DataSize → ℕ → Window
@@ -122,7 +118,7 @@ with_window a w receive_time =
       estimate_var = a.estimate_var;
       sum = w.sum;
       current_window = w.elapsed;
-      last_update = Instant.Some receive_time;
+      last_update = Some receive_time;
     }
 
 abbrev pub with_estimate : AckedBitrateEstimator → Bitrate → Float → AckedBitrateEstimator
@@ -130,7 +126,7 @@ with_estimate a rate variance =
     record {
       initial_window = a.initial_window;
       window = a.window;
-      estimate = Rate.Some rate;
+      estimate = Some rate;
       estimate_var = variance;
       sum = a.sum;
       current_window = a.current_window;
@@ -138,19 +134,19 @@ with_estimate a rate variance =
     }
 
 -- the first sample is the estimate, without the floor; later ones are weighed
-abbrev pub estimate_from : OptionBitrate → AckedBitrateEstimator → Bitrate → Bool → AckedBitrateEstimator
-estimate_from Rate.None a rate small = with_estimate a rate a.estimate_var
-estimate_from (Rate.Some e) a rate small =
+abbrev pub estimate_from : Option Bitrate → AckedBitrateEstimator → Bitrate → Bool → AckedBitrateEstimator
+estimate_from None a rate small = with_estimate a rate a.estimate_var
+estimate_from (Some e) a rate small =
     let w = weigh e.0 a.estimate_var rate.0 small in
     with_estimate a (B.rate w.estimate) w.variance
 
-unfoldable pub with_sample : AckedBitrateEstimator → OptionSample → AckedBitrateEstimator
-with_sample a Sample.None = a
-with_sample a (Sample.Some rate small) = estimate_from a.estimate a rate small
+unfoldable pub with_sample : AckedBitrateEstimator → Option Sample → AckedBitrateEstimator
+with_sample a None = a
+with_sample a (Some s) = estimate_from a.estimate a s.rate s.is_small
 
-abbrev pub window_for : OptionBitrate → AckedBitrateEstimator → ℕ
-window_for Rate.None a = a.initial_window
-window_for (Rate.Some e) a = a.window
+abbrev pub window_for : Option Bitrate → AckedBitrateEstimator → ℕ
+window_for None a = a.initial_window
+window_for (Some e) a = a.window
 
 -- the first estimate wants the larger window
 unfoldable pub window_length : AckedBitrateEstimator → ℕ
@@ -163,9 +159,9 @@ unfoldable pub filled : AckedBitrateEstimator → Window → ℕ → DataSize �
 filled a w receive_time size = with_sample (with_window a (with_packet w size (window_length a)) receive_time) (sample w (window_length a))
 
 -- an instant earlier than the last one clears sum and window, and its packet's size is not added
-abbrev pub update_since : OptionInstant → AckedBitrateEstimator → ℕ → DataSize → AckedBitrateEstimator
-update_since Instant.None a receive_time size = filled a (current_window a) receive_time size
-update_since (Instant.Some last) a receive_time size =
+abbrev pub update_since : Option ℕ → AckedBitrateEstimator → ℕ → DataSize → AckedBitrateEstimator
+update_since None a receive_time size = filled a (current_window a) receive_time size
+update_since (Some last) a receive_time size =
     cond (nat_lt receive_time last) (with_window a (record { sum = none; elapsed = 0 }) receive_time)
     (filled a (advance (current_window a) (receive_time - last) (window_length a)) receive_time size)
 

@@ -1,5 +1,5 @@
 -- What packets keep of an estimator, from `new` on: `Reached`. The laws are at the end: `new-reached`, `update-reached` and what follows from `Reached`.
-use Rattle.std.specs.Prelude.{◌≡◌, ℕ, zero, suc, ◌+◌, ◌-◌, ◌*◌, ◌/◌, ◌%◌, ◌^◌, ◌<◌, ◌≤◌, min, Bool, true, false, cond, not, ◌&&◌, T, pos, ◌==◌, int_le, is_nan, nat_le, nat_lt, Float}
+use Rattle.std.specs.Prelude.{◌≡◌, ℕ, zero, suc, ◌+◌, ◌-◌, ◌*◌, ◌/◌, ◌%◌, ◌^◌, ◌<◌, ◌≤◌, min, Bool, true, false, cond, not, ◌&&◌, T, pos, ◌==◌, int_le, is_nan, nat_le, nat_lt, Float, Option, Some, None}
 use Rattle.std.proofs.Math.Path.{refl, subst}
 use Rattle.std.proofs.Common.{ap, arith, ltb-true, ltb-false, leb-false, leb→le}
 use Rattle.std.specs.Float.Ieee.{binary64, le, eq, lt, fits}
@@ -20,15 +20,10 @@ use Rattle.seconds.specs.Laws.{secs-mono}
 use Rattle.bandwidth.specs.Bandwidth as B
 use Rattle.bandwidth.specs.declared.DataSize.{DataSize}
 use Rattle.bandwidth.specs.declared.Bitrate.{Bitrate}
-use Rattle.bandwidth.specs.declared.OptionBitrate.{OptionBitrate}
-use Rattle.bandwidth.specs.declared.OptionBitrate.TheVariants as Rate
 use Rattle.time.specs.Time.{saturating_add}
-use Rattle.time.specs.declared.OptionInstant.{OptionInstant}
-use Rattle.time.specs.declared.OptionInstant.TheVariants as Instant
 use Rattle.acked_bitrate_estimator.specs.declared.AckedBitrateEstimator.{AckedBitrateEstimator}
 use Rattle.acked_bitrate_estimator.specs.declared.Window.{Window}
-use Rattle.acked_bitrate_estimator.specs.declared.OptionSample.{OptionSample}
-use Rattle.acked_bitrate_estimator.specs.declared.OptionSample.TheVariants as Sample
+use Rattle.acked_bitrate_estimator.specs.declared.Sample.{Sample}
 use Rattle.acked_bitrate_estimator.specs.AckedBitrateEstimator.{small_sample_threshold, none, new, remaining, advance, sample, with_packet, scale, sample_uncertainty, mean, estimate_floor, estimate_var_increase, weigh, with_window, with_estimate, estimate_from, with_sample, window_for, window_length, current_window, filled, update_since, update}
 use Rattle.acked_bitrate_estimator.specs.Mean.{mean-in, variance-in}
 
@@ -58,13 +53,13 @@ pub record ValidRate (x : Float) : Type 0 where
   pub range : In least_rate (two^ 44) x
   pub held : T (fits binary64 x)
 
-abbrev pub ValidEstimate : OptionBitrate → Type 0
-ValidEstimate Rate.None = Unit {0}
-ValidEstimate (Rate.Some e) = ValidRate e.0
+abbrev pub ValidEstimate : Option Bitrate → Type 0
+ValidEstimate None = Unit {0}
+ValidEstimate (Some e) = ValidRate e.0
 
-abbrev pub ValidSample : OptionSample → Type 0
-ValidSample Sample.None = Unit {0}
-ValidSample (Sample.Some rate small) = ValidRate rate.0
+abbrev pub ValidSample : Option Sample → Type 0
+ValidSample None = Unit {0}
+ValidSample (Some s) = ValidRate s.rate.0
 
 pub record ValidVariance (x : Float) : Type 0 where
   pub range : In zero₊ (nat (10 ^ 30)) x
@@ -160,7 +155,7 @@ sample-valid : (w : Window) (length : ℕ) → ValidWindow length → Ready leng
 unfolding sample
 sample-valid w length l h = go (nat_lt w.elapsed length) refl
   where
-    go : (b : Bool) → nat_lt w.elapsed length ≡ b → ValidSample (cond b Sample.None (Sample.Some (B.per_duration w.sum length) (B.less w.sum small_sample_threshold)))
+    go : (b : Bool) → nat_lt w.elapsed length ≡ b → ValidSample (cond b None (Some (record { rate = B.per_duration w.sum length; is_small = B.less w.sum small_sample_threshold })))
     go true t = tt
     go false t = let n = h.sum.bytes in rw h.sum.is (rate-valid n length (some_byte n w.elapsed length h.empty (ltb-false w.elapsed length t)) h.sum.few l)
 
@@ -242,37 +237,37 @@ module _ (e var s : Float) (small : Bool) (he : ValidRate e) (hvar : ValidVarian
 estimate-reached : (a : AckedBitrateEstimator) (rate : Bitrate) (var : Float) → Reached a → ValidRate rate.0 → ValidVariance var → Reached (with_estimate a rate var)
 estimate-reached a rate var h r v = record { initial = h.initial; later = h.later; current = h.current; estimate = r; variance = v }
 
-from-reached : (o : OptionBitrate) (a : AckedBitrateEstimator) (rate : Bitrate) (small : Bool) → ValidEstimate o → Reached a → ValidRate rate.0 → Reached (estimate_from o a rate small)
-from-reached Rate.None a rate small e h r = estimate-reached a rate a.estimate_var h r h.variance
-from-reached (Rate.Some x) a rate small e h r =
+from-reached : (o : Option Bitrate) (a : AckedBitrateEstimator) (rate : Bitrate) (small : Bool) → ValidEstimate o → Reached a → ValidRate rate.0 → Reached (estimate_from o a rate small)
+from-reached None a rate small e h r = estimate-reached a rate a.estimate_var h r h.variance
+from-reached (Some x) a rate small e h r =
     estimate-reached a (B.rate (weigh x.0 a.estimate_var rate.0 small).estimate) (weigh x.0 a.estimate_var rate.0 small).variance h
     (weigh-rate x.0 a.estimate_var rate.0 small e h.variance r) (weigh-variance x.0 a.estimate_var rate.0 small e h.variance r)
 
-sample-reached : (a : AckedBitrateEstimator) (s : OptionSample) → Reached a → ValidSample s → Reached (with_sample a s)
+sample-reached : (a : AckedBitrateEstimator) (s : Option Sample) → Reached a → ValidSample s → Reached (with_sample a s)
 unfolding with_sample
-sample-reached a Sample.None h v = h
-sample-reached a (Sample.Some rate small) h v = from-reached a.estimate a rate small h.estimate h v
+sample-reached a None h v = h
+sample-reached a (Some s) h v = from-reached a.estimate a s.rate s.is_small h.estimate h v
 
 -- a sample leaves the bytes and the instant
 abbrev Kept : AckedBitrateEstimator → AckedBitrateEstimator → Type 0
 Kept a b = (b.sum ≡ a.sum) × (b.last_update ≡ a.last_update)
 
-from-kept : (o : OptionBitrate) (a : AckedBitrateEstimator) (rate : Bitrate) (small : Bool) → Kept a (estimate_from o a rate small)
-from-kept Rate.None a rate small = (refl, refl)
-from-kept (Rate.Some x) a rate small = (refl, refl)
+from-kept : (o : Option Bitrate) (a : AckedBitrateEstimator) (rate : Bitrate) (small : Bool) → Kept a (estimate_from o a rate small)
+from-kept None a rate small = (refl, refl)
+from-kept (Some x) a rate small = (refl, refl)
 
-sample-kept : (a : AckedBitrateEstimator) (s : OptionSample) → Kept a (with_sample a s)
+sample-kept : (a : AckedBitrateEstimator) (s : Option Sample) → Kept a (with_sample a s)
 unfolding with_sample
-sample-kept a Sample.None = (refl, refl)
-sample-kept a (Sample.Some rate small) = from-kept a.estimate a rate small
+sample-kept a None = (refl, refl)
+sample-kept a (Some s) = from-kept a.estimate a s.rate s.is_small
 
 length-valid : (a : AckedBitrateEstimator) → Reached a → ValidWindow (window_length a)
 unfolding window_length
 length-valid a h = go a.estimate
   where
-    go : (o : OptionBitrate) → ValidWindow (window_for o a)
-    go Rate.None = h.initial
-    go (Rate.Some e) = h.later
+    go : (o : Option Bitrate) → ValidWindow (window_for o a)
+    go None = h.initial
+    go (Some e) = h.later
 
 window-reached : (a : AckedBitrateEstimator) (w : Window) (t : ℕ) → Reached a → ReachedWindow w → Reached (with_window a w t)
 window-reached a w t h k = record { initial = h.initial; later = h.later; current = k; estimate = h.estimate; variance = h.variance }
@@ -287,9 +282,9 @@ module _ (a : AckedBitrateEstimator) (t s : ℕ) (h : Reached a) (l : 1 ≤ s) w
       let few : T (few_bytes b.sum) = subst (λ (z : DataSize). T (few_bytes z)) (sample-kept b x).0 f in
       sample-reached b x (window-reached a (with_packet w (B.bytes (pos s)) (window_length a)) t h (packet-reached w s (window_length a) L r l few)) (sample-valid w (window_length a) L r)
 
-  since-reached : (o : OptionInstant) → T (few_bytes (update_since o a t (B.bytes (pos s))).sum) → Reached (update_since o a t (B.bytes (pos s)))
-  since-reached Instant.None = filled-reached (current_window a) (ready (window_length a) (current_window a) (length-valid a h) h.current)
-  since-reached (Instant.Some last) = go (nat_lt t last)
+  since-reached : (o : Option ℕ) → T (few_bytes (update_since o a t (B.bytes (pos s))).sum) → Reached (update_since o a t (B.bytes (pos s)))
+  since-reached None = filled-reached (current_window a) (ready (window_length a) (current_window a) (length-valid a h) h.current)
+  since-reached (Some last) = go (nat_lt t last)
     where
       after : Bool → AckedBitrateEstimator
       after b = cond b (with_window a empty t) (filled a (advance (current_window a) (t - last) (window_length a)) t (B.bytes (pos s)))
@@ -314,29 +309,29 @@ pub update-reached : (a : AckedBitrateEstimator) (t s : ℕ) → Reached a → 1
 unfolding update
 update-reached a t s h l = since-reached a t s h l a.last_update
 
-filled-last : (a : AckedBitrateEstimator) (w : Window) (t : ℕ) (size : DataSize) → (filled a w t size).last_update ≡ Instant.Some t
+filled-last : (a : AckedBitrateEstimator) (w : Window) (t : ℕ) (size : DataSize) → (filled a w t size).last_update ≡ Some t
 unfolding filled
 filled-last a w t size = (sample-kept (with_window a (with_packet w size (window_length a)) t) (sample w (window_length a))).1
 
-pub update-last : (a : AckedBitrateEstimator) (t : ℕ) (size : DataSize) → (update a t size).last_update ≡ Instant.Some t
+pub update-last : (a : AckedBitrateEstimator) (t : ℕ) (size : DataSize) → (update a t size).last_update ≡ Some t
 unfolding update
 update-last a t size = go a.last_update
   where
-    cleared : (b : Bool) (w : Window) → (cond b (with_window a empty t) (filled a w t size)).last_update ≡ Instant.Some t
+    cleared : (b : Bool) (w : Window) → (cond b (with_window a empty t) (filled a w t size)).last_update ≡ Some t
     cleared true w = refl
     cleared false w = filled-last a w t size
 
-    go : (o : OptionInstant) → (update_since o a t size).last_update ≡ Instant.Some t
-    go Instant.None = filled-last a (current_window a) t size
-    go (Instant.Some last) = cleared (nat_lt t last) (advance (current_window a) (t - last) (window_length a))
+    go : (o : Option ℕ) → (update_since o a t size).last_update ≡ Some t
+    go None = filled-last a (current_window a) t size
+    go (Some last) = cleared (nat_lt t last) (advance (current_window a) (t - last) (window_length a))
 
 -- a sample is never 0, whatever the gap before the packet
 pub sample_in : (a : AckedBitrateEstimator) (gap : ℕ) → Reached a → ValidSample (sample (advance (current_window a) gap (window_length a)) (window_length a))
 sample_in a gap h = sample-valid (advance (current_window a) gap (window_length a)) (window_length a) (length-valid a h) (advance-ready (current_window a) gap (window_length a) (length-valid a h) h.current)
 
 -- an estimate is never below 0.8, above 2 ^ 44, or a NaN
-pub estimate-in : (a : AckedBitrateEstimator) (e : Bitrate) → Reached a → a.estimate ≡ Rate.Some e → ValidRate e.0
+pub estimate-in : (a : AckedBitrateEstimator) (e : Bitrate) → Reached a → a.estimate ≡ Some e → ValidRate e.0
 estimate-in a e h p = rw p at h.estimate
 
-pub estimate-no-nan : (a : AckedBitrateEstimator) (e : Bitrate) → Reached a → a.estimate ≡ Rate.Some e → T (not (is_nan e.0))
+pub estimate-no-nan : (a : AckedBitrateEstimator) (e : Bitrate) → Reached a → a.estimate ≡ Some e → T (not (is_nan e.0))
 estimate-no-nan a e h p = in-no-nan (estimate-in a e h p).range

@@ -4,8 +4,7 @@
 ghost use Rattle.std.specs.Prelude.{◌≡◌, ◌≤◌};
 ghost use Rattle.acked_bitrate_estimator.specs.AckedBitrateEstimator as Acked;
 
-use bandwidth::{Bitrate, DataSize, OptionBitrate};
-use time::OptionInstant;
+use bandwidth::{Bitrate, DataSize};
 
 #[derive(Clone, Copy)]
 pub struct AckedBitrateEstimator {
@@ -13,14 +12,14 @@ pub struct AckedBitrateEstimator {
     pub initial_window: u64,
     // The window to use for later ones.
     pub window: u64,
-    pub estimate: OptionBitrate,
+    pub estimate: Option<Bitrate>,
     pub estimate_var: f64,
     // The sum in the current window.
     pub sum: DataSize,
     // How much of the current window has elapsed.
     pub current_window: u64,
     // The remote instant of the last packet.
-    pub last_update: OptionInstant,
+    pub last_update: Option<u64>,
 }
 
 // The bytes of the current window and what of it has elapsed, in ns.
@@ -32,9 +31,9 @@ pub struct Window {
 
 // The rate of a full window, and whether it held few bytes.
 #[derive(Clone, Copy)]
-pub enum OptionSample {
-    None,
-    Some(Bitrate, bool),
+pub struct Sample {
+    pub rate: Bitrate,
+    pub is_small: bool,
 }
 
 // An estimate and its variance.
@@ -60,40 +59,37 @@ impl Window {
     pub fn advance(self, gap: u64, window: u64) -> Self
         ensures { result ≡ Acked.advance self gap window }
     {
-        let sum = self.sum;
-        let elapsed = time::saturating_add(self.elapsed, gap);
+        let elapsed = self.elapsed.saturating_add(gap);
         if window <= gap {
             return Window {
                 sum: DataSize::ZERO,
                 elapsed: remaining(elapsed, window),
             };
         }
-        Window { sum, elapsed }
+        Window { elapsed, ..self }
     }
 
     // The sample of a window that is full.
-    pub fn sample(self, window: u64) -> OptionSample
+    pub fn sample(self, window: u64) -> Option<Sample>
         ensures { result ≡ Acked.sample self window }
     {
-        let sum = self.sum;
         if self.elapsed < window {
-            return OptionSample::None;
+            return None;
         }
-        OptionSample::Some(
-            sum.div(window),
-            sum.lt(AckedBitrateEstimator::SMALL_SAMPLE_THRESHOLD),
-        )
+        Some(Sample {
+            rate: self.sum.div(window),
+            is_small: self.sum.lt(AckedBitrateEstimator::SMALL_SAMPLE_THRESHOLD),
+        })
     }
 
     // The window after its sample, with the packet that came.
     pub fn with_packet(self, size: DataSize, window: u64) -> Self
         ensures { result ≡ Acked.with_packet self size window }
     {
-        let sum = self.sum;
         if self.elapsed < window {
             return Window {
-                sum: sum.add(size),
-                elapsed: self.elapsed,
+                sum: self.sum.add(size),
+                ..self
             };
         }
         Window {
@@ -144,64 +140,51 @@ impl AckedBitrateEstimator {
         Self {
             initial_window,
             window,
-            estimate: OptionBitrate::None,
+            estimate: None,
             estimate_var: 50.0,
             sum: DataSize::ZERO,
             current_window: 0,
-            last_update: OptionInstant::None,
+            last_update: None,
         }
     }
 
-    pub fn current_estimate(self) -> OptionBitrate
+    pub fn current_estimate(self) -> Option<Bitrate>
         ensures { result ≡ self.estimate }
     {
-        let e = self.estimate;
-        e
+        self.estimate
     }
 
     fn with_window(self, w: Window, receive_time: u64) -> Self
         ensures { result ≡ Acked.with_window self w receive_time }
     {
-        let estimate = self.estimate;
-        let sum = w.sum;
         Self {
-            initial_window: self.initial_window,
-            window: self.window,
-            estimate,
-            estimate_var: self.estimate_var,
-            sum,
+            sum: w.sum,
             current_window: w.elapsed,
-            last_update: OptionInstant::Some(receive_time),
+            last_update: Some(receive_time),
+            ..self
         }
     }
 
     fn with_estimate(self, rate: Bitrate, variance: f64) -> Self
         ensures { result ≡ Acked.with_estimate self rate variance }
     {
-        let sum = self.sum;
-        let last_update = self.last_update;
         Self {
-            initial_window: self.initial_window,
-            window: self.window,
-            estimate: OptionBitrate::Some(rate),
+            estimate: Some(rate),
             estimate_var: variance,
-            sum,
-            current_window: self.current_window,
-            last_update,
+            ..self
         }
     }
 
     // The first sample is the estimate; later ones are weighed.
-    fn with_sample(self, sample: OptionSample) -> Self
+    fn with_sample(self, sample: Option<Sample>) -> Self
         ensures { result ≡ Acked.with_sample self sample }
     {
-        let OptionSample::Some(rate, is_small) = sample else {
+        let Some(Sample { rate, is_small }) = sample else {
             return self;
         };
-        let estimate = self.estimate;
-        match estimate {
-            OptionBitrate::None => self.with_estimate(rate, self.estimate_var),
-            OptionBitrate::Some(e) => {
+        match self.estimate {
+            None => self.with_estimate(rate, self.estimate_var),
+            Some(e) => {
                 let w = weigh(e.as_f64(), self.estimate_var, rate.as_f64(), is_small);
                 self.with_estimate(Bitrate(w.estimate), w.variance)
             }
@@ -212,10 +195,9 @@ impl AckedBitrateEstimator {
     fn window_length(self) -> u64
         ensures { result ≡ Acked.window_length self }
     {
-        let estimate = self.estimate;
-        match estimate {
-            OptionBitrate::None => self.initial_window,
-            OptionBitrate::Some(_) => self.window,
+        match self.estimate {
+            None => self.initial_window,
+            Some(_) => self.window,
         }
     }
 
@@ -232,15 +214,13 @@ impl AckedBitrateEstimator {
     pub fn update(self, receive_time: u64, packet_size: DataSize) -> Self
         ensures { result ≡ Acked.update self receive_time packet_size }
     {
-        let last_update = self.last_update;
-        let sum = self.sum;
         let w = Window {
-            sum,
+            sum: self.sum,
             elapsed: self.current_window,
         };
-        match last_update {
-            OptionInstant::None => self.filled(w, receive_time, packet_size),
-            OptionInstant::Some(last) => {
+        match self.last_update {
+            None => self.filled(w, receive_time, packet_size),
+            Some(last) => {
                 if receive_time < last {
                     let cleared = Window {
                         sum: DataSize::ZERO,
@@ -251,24 +231,6 @@ impl AckedBitrateEstimator {
                 let advanced = w.advance(receive_time - last, self.window_length());
                 self.filled(advanced, receive_time, packet_size)
             }
-        }
-    }
-
-    // The same value, put together anew, as `OptionInstant::copied`.
-    pub fn copied(self) -> Self
-        ensures { result ≡ self }
-    {
-        let estimate = self.estimate;
-        let last_update = self.last_update;
-        let sum = self.sum;
-        Self {
-            initial_window: self.initial_window,
-            window: self.window,
-            estimate: estimate.copied(),
-            estimate_var: self.estimate_var,
-            sum,
-            current_window: self.current_window,
-            last_update: last_update.copied(),
         }
     }
 }

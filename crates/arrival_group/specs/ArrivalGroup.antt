@@ -1,19 +1,15 @@
 -- src/bwe/delay/arrival_group.rs: how packets are grouped by their send times, and the delay between groups. Instants are ns.
-use Rattle.std.specs.Prelude.{ℕ, ◌+◌, ◌-◌, ◌*◌, ◌/◌, max, Bool, true, false, ◌&&◌, cond, ltb}
+use Rattle.std.specs.Option.{unwrap_or}
+use Rattle.std.specs.Prelude.{ℕ, ◌+◌, ◌-◌, ◌*◌, ◌/◌, max, Bool, true, false, ◌&&◌, cond, ltb, Option, Some, None}
 use Rattle.time.specs.Time as Time
-use Rattle.time.specs.Time.{saturating_duration_since, saturating_add, instant_or, exact, since, positive}
-use Rattle.time.specs.declared.OptionInstant.TheVariants as Instant
+use Rattle.time.specs.Time.{saturating_duration_since, saturating_add, exact, since, positive}
 use Rattle.time.specs.declared.TimeDelta.{TimeDelta}
 use Rattle.time.specs.declared.TimeDelta.TheVariants.{Positive}
 use Rattle.arrival_group.specs.declared.ArrivalGroup.{ArrivalGroup}
 use Rattle.arrival_group.specs.declared.Belongs.{Belongs}
 use Rattle.arrival_group.specs.declared.Belongs.TheVariants.{Yes, NewGroup, Skipped}
 use Rattle.arrival_group.specs.declared.Added.{Added}
-use Rattle.arrival_group.specs.declared.OptionGroup.{OptionGroup}
-use Rattle.arrival_group.specs.declared.OptionGroup.TheVariants as G
 use Rattle.arrival_group.specs.declared.InterGroupDelayDelta.{InterGroupDelayDelta}
-use Rattle.arrival_group.specs.declared.OptionDelta.{OptionDelta}
-use Rattle.arrival_group.specs.declared.OptionDelta.TheVariants as Delta
 use Rattle.arrival_group.specs.declared.ArrivalGroupAccumulator.{ArrivalGroupAccumulator}
 use Rattle.arrival_group.specs.declared.Accumulated.{Accumulated}
 
@@ -86,35 +82,35 @@ delta_between g later =
 
 -- ---- the accumulator
 abbrev pub new_accumulator : ArrivalGroupAccumulator
-new_accumulator = record { send_time_origin = Instant.None; previous_group = G.None; current_group = G.None }
+new_accumulator = record { send_time_origin = None; previous_group = None; current_group = None }
 
-unfoldable pub delta : OptionGroup → ArrivalGroup → OptionDelta
-delta G.None current = Delta.None
-delta (G.Some previous) current = Delta.Some (delta_between previous current)
+unfoldable pub delta : Option ArrivalGroup → ArrivalGroup → Option InterGroupDelayDelta
+delta None current = None
+delta (Some previous) current = Some (delta_between previous current)
 
 -- send times are rounded to ms from the first packet's: µs plus 500, divided by 1,000
 unfoldable pub rounded : ℕ → ℕ → ℕ
 rounded origin elapsed = saturating_add origin ((elapsed / 1000 + 500) / 1000 * 1000000)
 
-abbrev pub new_accumulated : ℕ → OptionGroup → ArrivalGroup → OptionDelta → Accumulated
+abbrev pub new_accumulated : ℕ → Option ArrivalGroup → ArrivalGroup → Option InterGroupDelayDelta → Accumulated
 new_accumulated origin previous current delta =
     record {
-      accumulator = record { send_time_origin = Instant.Some origin; previous_group = previous; current_group = G.Some current };
+      accumulator = record { send_time_origin = Some origin; previous_group = previous; current_group = Some current };
       delta = delta;
     }
 
 -- the first packet starts a group; one that needs a new group closes the current one
-unfoldable pub accumulate_rounded : OptionGroup → OptionGroup → ℕ → ℕ → ℕ → Accumulated
-accumulate_rounded G.None previous origin send remote = new_accumulated origin previous (new send remote) Delta.None
-accumulate_rounded (G.Some current) previous origin send remote =
+unfoldable pub accumulate_rounded : Option ArrivalGroup → Option ArrivalGroup → ℕ → ℕ → ℕ → Accumulated
+accumulate_rounded None previous origin send remote = new_accumulated origin previous (new send remote) None
+accumulate_rounded (Some current) previous origin send remote =
     let added = add_packet current send remote in
     cond added.need_new_group
-    (new_accumulated origin (G.Some current) (new send remote) (delta previous current))
-    (new_accumulated origin previous added.group Delta.None)
+    (new_accumulated origin (Some current) (new send remote) (delta previous current))
+    (new_accumulated origin previous added.group None)
 
 -- a packet sent before the first one joins no group
 unfoldable pub accumulate_packet : ArrivalGroupAccumulator → ℕ → ℕ → Accumulated
 accumulate_packet a send remote =
-    let origin = instant_or a.send_time_origin send in
-    cond (ltb send origin) (record { accumulator = a; delta = Delta.None })
+    let origin = unwrap_or a.send_time_origin send in
+    cond (ltb send origin) (record { accumulator = a; delta = None })
     (accumulate_rounded a.current_group a.previous_group origin (rounded origin (send - origin)) remote)

@@ -1,17 +1,16 @@
 -- Laws of groups: the bounds of what an accumulator holds after any packets, and of the deltas that it gives.
-use Rattle.std.specs.Prelude.{ℕ, ◌+◌, ◌-◌, ◌*◌, ◌/◌, ◌^◌, ◌≤◌, ◌<◌, ◌≡◌, ltb}
+use Rattle.std.specs.Option.{unwrap_or}
+use Rattle.std.specs.Prelude.{ℕ, ◌+◌, ◌-◌, ◌*◌, ◌/◌, ◌^◌, ◌≤◌, ◌<◌, ◌≡◌, ltb, Option, Some, None}
 use native.Mathlib.Omega.{arith}
 use borrow.Author.Tests.{le-leb, ltb-false}
 use Rattle.bool_laws.specs.Bools.{cases}
-use Rattle.time.specs.Time.{limit, difference, exact, instant_or, saturating_add}
+use Rattle.time.specs.Time.{limit, difference, exact, saturating_add}
 use Rattle.time.specs.Laws.{since-exact}
 use Rattle.time.specs.declared.TimeDelta.{TimeDelta}
 use Rattle.time.specs.declared.TimeDelta.TheVariants.{NegativeInfinity, Negative, Positive, PositiveInfinity}
 use Rattle.arrival_group.specs.declared.ArrivalGroup.{ArrivalGroup}
 use Rattle.arrival_group.specs.declared.Belongs.{Belongs}
 use Rattle.arrival_group.specs.declared.Belongs.TheVariants.{Yes, NewGroup, Skipped}
-use Rattle.arrival_group.specs.declared.OptionGroup.{OptionGroup}
-use Rattle.arrival_group.specs.declared.OptionGroup.TheVariants as G
 use Rattle.arrival_group.specs.declared.InterGroupDelayDelta.{InterGroupDelayDelta}
 use Rattle.arrival_group.specs.declared.ArrivalGroupAccumulator.{ArrivalGroupAccumulator}
 use Rattle.arrival_group.specs.declared.Accumulated.{Accumulated}
@@ -49,12 +48,12 @@ pub record Bounded (S R : ℕ) (g : ArrivalGroup) : Type 0 where
   pub last-send : g.last_local_send_time ≤ S + 500000
   pub last-remote : g.last_remote_recv_time ≤ R
 
-abbrev pub BoundedIfAny : ℕ → ℕ → OptionGroup → Type 0
-BoundedIfAny S R G.None = Unit {0}
-BoundedIfAny S R (G.Some g) = Bounded S R g
+abbrev pub BoundedIfAny : ℕ → ℕ → Option ArrivalGroup → Type 0
+BoundedIfAny S R None = Unit {0}
+BoundedIfAny S R (Some g) = Bounded S R g
 
 pub record Sound (S R : ℕ) (a : ArrivalGroupAccumulator) : Type 0 where
-  pub origin : instant_or a.send_time_origin 0 ≤ S
+  pub origin : unwrap_or a.send_time_origin 0 ≤ S
   pub previous : BoundedIfAny S R a.previous_group
   pub current : BoundedIfAny S R a.current_group
 
@@ -102,10 +101,10 @@ module _ {S R origin send remote : ℕ} (o : origin ≤ S) (h : send ≤ S + 500
   new-bounded : Bounded S R (new send remote)
   new-bounded = record { first-send = h; first-remote = k; last-send = h; last-remote = k }
 
-  rounded-sound : (current previous : OptionGroup) → BoundedIfAny S R current → BoundedIfAny S R previous → Sound S R (accumulate_rounded current previous origin send remote).accumulator
+  rounded-sound : (current previous : Option ArrivalGroup) → BoundedIfAny S R current → BoundedIfAny S R previous → Sound S R (accumulate_rounded current previous origin send remote).accumulator
   unfolding accumulate_rounded add_packet
-  rounded-sound G.None previous w v = record { origin = o; previous = v; current = new-bounded }
-  rounded-sound (G.Some g) previous w v =
+  rounded-sound None previous w v = record { origin = o; previous = v; current = new-bounded }
+  rounded-sound (Some g) previous w v =
       cases (λ (x : Accumulated). Sound S R x.accumulator) (add_packet g send remote).need_new_group
       (λ e. record { origin = o; previous = w; current = new-bounded })
       (λ e. record { origin = o; previous = v; current = added-bounded (belongs_to_group g send remote) w })
@@ -116,7 +115,7 @@ new-sound S R = record { origin = omega arith; previous = tt; current = tt }
 pub accumulate-sound : {S R send remote : ℕ} (a : ArrivalGroupAccumulator) → S ≤ 2 ^ 63 → send ≤ S → remote ≤ R → Sound S R a → Sound S R (accumulate_packet a send remote).accumulator
 unfolding accumulate_packet
 accumulate-sound {S} {R} {send} {remote} a x h k s =
-    let origin = instant_or a.send_time_origin send in
+    let origin = unwrap_or a.send_time_origin send in
     cases (λ (y : Accumulated). Sound S R y.accumulator) (ltb send origin) (λ e. s)
     (λ e.
     let l = ltb-false send origin e in

@@ -1,5 +1,5 @@
 -- Rows of document 01, and a case that later proofs must not forget, computed from the definitions.
-use Rattle.std.specs.Prelude.{ℕ, ◌*◌, ◌≡◌, refl, Bool, true}
+use Rattle.std.specs.Prelude.{ℕ, ◌*◌, ◌≡◌, refl, Bool, true, Some}
 use Rattle.time.specs.Time.{
   saturating_add,
   since,
@@ -18,8 +18,6 @@ use Rattle.time.specs.Time.{
   sub,
 }
 use Rattle.time.specs.declared.TimeDelta.TheVariants.{Negative, Positive}
-use Rattle.arrival_group.specs.declared.OptionGroup.TheVariants as G
-use Rattle.arrival_group.specs.declared.OptionDelta.TheVariants as Delta
 use Rattle.arrival_group.specs.declared.Accumulated.{Accumulated}
 use Rattle.arrival_group.specs.ArrivalGroup.{
   accumulate_packet,
@@ -45,11 +43,11 @@ groups = true
 abbrev pub second : ℕ → Accumulated
 second n = accumulate_packet (accumulate_packet new_accumulator 0 0).accumulator (ms n) (ms n)
 
-pub five-ms-joins : (second 5).accumulator.current_group ≡ G.Some (with_packet (new 0 0) (ms 5) (ms 5))
+pub five-ms-joins : (second 5).accumulator.current_group ≡ Some (with_packet (new 0 0) (ms 5) (ms 5))
 unfolding groups
 five-ms-joins = refl
 
-pub six-ms-starts-anew : (second 6).accumulator.current_group ≡ G.Some (new (ms 6) (ms 6))
+pub six-ms-starts-anew : (second 6).accumulator.current_group ≡ Some (new (ms 6) (ms 6))
 unfolding groups
 six-ms-starts-anew = refl
 
@@ -63,6 +61,6 @@ after_burst =
     (ms 40)
 
 pub send-delta-may-be-negative :
-    after_burst.delta ≡ Delta.Some record { send_delta = Negative (ms 10); arrival_delta = Positive (ms 1); last_remote_recv_time = ms 2 }
+    after_burst.delta ≡ Some record { send_delta = Negative (ms 10); arrival_delta = Positive (ms 1); last_remote_recv_time = ms 2 }
 unfolding groups
 send-delta-may-be-negative = refl

@@ -4,7 +4,7 @@
 ghost use Rattle.std.specs.Prelude.{◌≡◌, max};
 ghost use Rattle.arrival_group.specs.ArrivalGroup as Group;
 
-use time::{OptionInstant, TimeDelta, Timestamp};
+use time::{TimeDelta, Timestamp};
 
 const BURST_TIME_INTERVAL: u64 = 5_000_000;
 
@@ -36,12 +36,6 @@ pub struct Added {
     pub need_new_group: bool,
 }
 
-#[derive(Clone, Copy)]
-pub enum OptionGroup {
-    None,
-    Some(ArrivalGroup),
-}
-
 // The delay between two groups.
 #[derive(Clone, Copy)]
 pub struct InterGroupDelayDelta {
@@ -51,23 +45,17 @@ pub struct InterGroupDelayDelta {
 }
 
 #[derive(Clone, Copy)]
-pub enum OptionDelta {
-    None,
-    Some(InterGroupDelayDelta),
-}
-
-#[derive(Clone, Copy)]
 pub struct ArrivalGroupAccumulator {
-    pub send_time_origin: OptionInstant,
-    pub previous_group: OptionGroup,
-    pub current_group: OptionGroup,
+    pub send_time_origin: Option<u64>,
+    pub previous_group: Option<ArrivalGroup>,
+    pub current_group: Option<ArrivalGroup>,
 }
 
 // An accumulator after a packet, and the delay delta that the packet gave.
 #[derive(Clone, Copy)]
 pub struct Accumulated {
     pub accumulator: ArrivalGroupAccumulator,
-    pub delta: OptionDelta,
+    pub delta: Option<InterGroupDelayDelta>,
 }
 
 // The later of two instants.
@@ -95,7 +83,7 @@ fn rounded(origin: u64, elapsed: u64) -> u64
     if ms > 18_446_744_073_709 {
         return 18446744073709551615;
     }
-    time::saturating_add(origin, ms * 1_000_000)
+    origin.saturating_add(ms * 1_000_000)
 }
 
 // Whether a packet arrives in a burst with its group.
@@ -192,29 +180,17 @@ impl ArrivalGroup {
     }
 }
 
-impl OptionGroup {
-    // The same value, put together anew, as `OptionInstant::copied`.
-    fn copied(self) -> Self
-        ensures { result ≡ self }
-    {
-        match self {
-            OptionGroup::None => OptionGroup::None,
-            OptionGroup::Some(group) => OptionGroup::Some(group),
-        }
-    }
-
-    // The delay between the group, where there is one, and a later one.
-    fn delta(self, current: ArrivalGroup) -> OptionDelta
-        ensures { result ≡ Group.delta self current }
-    {
-        match self {
-            OptionGroup::None => OptionDelta::None,
-            OptionGroup::Some(previous) => OptionDelta::Some(InterGroupDelayDelta {
-                send_delta: previous.departure_delta(current),
-                arrival_delta: previous.arrival_delta(current),
-                last_remote_recv_time: current.last_remote_recv_time,
-            }),
-        }
+// The delay between a group, where there is one, and a later one.
+fn delta(previous: Option<ArrivalGroup>, current: ArrivalGroup) -> Option<InterGroupDelayDelta>
+    ensures { result ≡ Group.delta previous current }
+{
+    match previous {
+        None => None,
+        Some(previous) => Some(InterGroupDelayDelta {
+            send_delta: previous.departure_delta(current),
+            arrival_delta: previous.arrival_delta(current),
+            last_remote_recv_time: current.last_remote_recv_time,
+        }),
     }
 }
 
@@ -222,16 +198,16 @@ impl Accumulated {
     // An accumulator with an origin and a current group, beside a delta.
     fn new(
         origin: u64,
-        previous_group: OptionGroup,
+        previous_group: Option<ArrivalGroup>,
         current: ArrivalGroup,
-        delta: OptionDelta,
+        delta: Option<InterGroupDelayDelta>,
     ) -> Self
         ensures { result ≡ Group.new_accumulated origin previous_group current delta }
     {
         let accumulator = ArrivalGroupAccumulator {
-            send_time_origin: OptionInstant::Some(origin),
+            send_time_origin: Some(origin),
             previous_group,
-            current_group: OptionGroup::Some(current),
+            current_group: Some(current),
         };
         Self { accumulator, delta }
     }
@@ -242,22 +218,9 @@ impl ArrivalGroupAccumulator {
         ensures { result ≡ Group.new_accumulator }
     {
         Self {
-            send_time_origin: OptionInstant::None,
-            previous_group: OptionGroup::None,
-            current_group: OptionGroup::None,
-        }
-    }
-
-    pub fn copied(self) -> Self
-        ensures { result ≡ self }
-    {
-        let send_time_origin = self.send_time_origin;
-        let previous_group = self.previous_group;
-        let current_group = self.current_group;
-        Self {
-            send_time_origin: send_time_origin.copied(),
-            previous_group: previous_group.copied(),
-            current_group: current_group.copied(),
+            send_time_origin: None,
+            previous_group: None,
+            current_group: None,
         }
     }
 
@@ -267,25 +230,25 @@ impl ArrivalGroupAccumulator {
     {
         let previous = self.previous_group;
         let current_group = self.current_group;
-        let OptionGroup::Some(current) = current_group else {
+        let Some(current) = current_group else {
             return Accumulated::new(
                 origin,
                 previous,
                 ArrivalGroup::new(send, remote),
-                OptionDelta::None,
+                None,
             );
         };
         let added = current.add_packet(send, remote);
         if added.need_new_group {
             return Accumulated::new(
                 origin,
-                OptionGroup::Some(current),
+                Some(current),
                 ArrivalGroup::new(send, remote),
-                previous.delta(current),
+                delta(previous, current),
             );
         }
         let group = added.group;
-        Accumulated::new(origin, previous, group, OptionDelta::None)
+        Accumulated::new(origin, previous, group, None)
     }
 
     // A packet, in the order of receipt. One sent before the first packet joins no group.
@@ -293,11 +256,11 @@ impl ArrivalGroupAccumulator {
         ensures { result ≡ Group.accumulate_packet self local_send_time remote_recv_time }
     {
         let send_time_origin = self.send_time_origin;
-        let origin = time::instant_or(send_time_origin, local_send_time);
+        let origin = send_time_origin.unwrap_or(local_send_time);
         if local_send_time < origin {
             return Accumulated {
                 accumulator: self,
-                delta: OptionDelta::None,
+                delta: None,
             };
         }
         let send = rounded(origin, local_send_time - origin);

@@ -4,11 +4,11 @@
 
 use acked_bitrate_estimator::AckedBitrateEstimator;
 use arrival_group::{ArrivalGroup, InterGroupDelayDelta};
-use bandwidth::{BandwidthUsage, Bitrate, DataSize, OptionBitrate};
+use bandwidth::{BandwidthUsage, Bitrate, DataSize};
 use control::DelayController;
 use link_state::Link;
 use std::io;
-use time::{OptionInstant, TimeDelta, Timestamp};
+use time::{TimeDelta, Timestamp};
 use trendline::{Delays, TrendlineEstimator};
 
 fn text(rt: &impl Print, t: &[u8]) -> io::Result<()> {
@@ -435,7 +435,7 @@ fn report(
         instants,
         instants,
         instants,
-        OptionBitrate::None,
+        None,
         moment,
     );
     let answer = called.answer;
@@ -457,7 +457,7 @@ fn too_many_bytes(rt: &impl Print) -> io::Result<()> {
         &[5, 6],
         &[5, 6],
         &[5, 6],
-        OptionBitrate::None,
+        None,
         0,
     );
     let acked = judged.acked;
@@ -522,8 +522,8 @@ fn variations(rt: &impl Print, n: u64) -> io::Result<()> {
     let after = trendline.add_delay_observation(variation, 0);
     let updated = after.last_threshold_update;
     match updated {
-        OptionInstant::None => text(rt, b" no")?,
-        OptionInstant::Some(_) => text(rt, b" yes")?,
+        None => text(rt, b" no")?,
+        Some(_) => text(rt, b" yes")?,
     }
     let hypothesis = after.hypothesis();
     match hypothesis {

@@ -1,17 +1,15 @@
 -- src/util/average.rs: what each operation on a moving average gives, each float operation rounded once. `powf(2.0)` is one product.
-use Rattle.std.specs.Prelude.{Bool, true, false, ◌&&◌, cond, Float}
+use Rattle.std.specs.Prelude.{Bool, true, false, ◌&&◌, cond, Float, Option, Some, None}
 use Rattle.std.specs.Float.Ieee as Ieee
 use Rattle.float_order.specs.Binary64.{add, sub, mul, lit, one}
 use Rattle.sqrt.specs.Sqrt.{sqrt}
-use Rattle.average.specs.declared.OptionF64.{OptionF64}
-use Rattle.average.specs.declared.OptionF64.TheVariants.{None, Some}
 use Rattle.average.specs.declared.MovingAverage.{MovingAverage}
 
 abbrev pub new : Float → MovingAverage
 new factor = record { smoothing_factor = factor; average = None; variance = lit 0; std = lit 0 }
 
 -- value within num_std deviations of the average; never without one
-abbrev pub within : OptionF64 → Float → Float → Bool
+abbrev pub within : Option Float → Float → Float → Bool
 within None spread value = false
 within (Some average) spread value = Ieee.le (sub average spread) value && Ieee.le value (add average spread)
 
@@ -19,18 +17,18 @@ unfoldable pub within_std : MovingAverage → Float → Float → Bool
 within_std m value n = within m.average (mul m.std n) value
 
 -- with standard deviation 0 there is no upper or lower range
-abbrev pub above : OptionF64 → Float → OptionF64
+abbrev pub above : Option Float → Float → Option Float
 above None spread = None
 above (Some average) spread = Some (add average spread)
 
-unfoldable pub upper_range : MovingAverage → Float → OptionF64
+unfoldable pub upper_range : MovingAverage → Float → Option Float
 upper_range m n = cond (Ieee.eq m.std (lit 0)) None (above m.average (mul n m.std))
 
-abbrev pub below : OptionF64 → Float → OptionF64
+abbrev pub below : Option Float → Float → Option Float
 below None spread = None
 below (Some average) spread = Some (sub average spread)
 
-unfoldable pub lower_range : MovingAverage → Float → OptionF64
+unfoldable pub lower_range : MovingAverage → Float → Option Float
 lower_range m n = cond (Ieee.eq m.std (lit 0)) None (below m.average (mul n m.std))
 
 -- the average and the variance after a value that is delta off
@@ -41,7 +39,7 @@ abbrev pub new_variance : Float → Float → Float → Float
 new_variance factor variance delta = mul (sub one factor) (add variance (mul factor (mul delta delta)))
 
 -- the first value is the average and leaves variance and deviation
-abbrev pub update_from : OptionF64 → MovingAverage → Float → MovingAverage
+abbrev pub update_from : Option Float → MovingAverage → Float → MovingAverage
 update_from None m value = record { smoothing_factor = m.smoothing_factor; average = Some value; variance = m.variance; std = m.std }
 update_from (Some average) m value =
     record {
@@ -54,7 +52,7 @@ update_from (Some average) m value =
 unfoldable pub update : MovingAverage → Float → MovingAverage
 update m value = update_from m.average m value
 
-abbrev pub is_some : OptionF64 → Bool
+abbrev pub is_some : Option Float → Bool
 is_some None = false
 is_some (Some average) = true
 

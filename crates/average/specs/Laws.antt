@@ -1,5 +1,5 @@
 -- What a moving average keeps: with values from 0 to L, the average stays from 0 to L, the variance from 0 to 10 ^ 30, and the deviation is the variance's root.
-use Rattle.std.specs.Prelude.{◌≡◌, ◌&&◌, ◌*◌, ◌^◌, negsuc, T, Float}
+use Rattle.std.specs.Prelude.{◌≡◌, ◌&&◌, ◌*◌, ◌^◌, negsuc, T, Float, Option, Some, None}
 use Rattle.std.proofs.Math.Path.{refl}
 use Rattle.std.proofs.Math.Bool.{false}
 use Rattle.std.specs.Float.{fin}
@@ -15,8 +15,6 @@ use Rattle.sqrt.specs.Sqrt.{sqrt}
 use Rattle.sqrt.specs.Laws.{sqrt-at}
 use Rattle.average.specs.Average.{new, new_variance, update, update_from, reset}
 use Rattle.average.specs.Step.{below_one, step_in}
-use Rattle.average.specs.declared.OptionF64.{OptionF64}
-use Rattle.average.specs.declared.OptionF64.TheVariants.{None, Some}
 use Rattle.average.specs.declared.MovingAverage.{MovingAverage}
 
 -- the factors and the limits for which it is shown: a factor from 0.125 to 1 - 2 ^ -52, an L of 10 ^ 14 at most
@@ -39,7 +37,7 @@ pub most-variance : T (le most_variance (nat (10 ^ 30)) && lt (nat (10 ^ 30)) (l
 most-variance = unfold floats in tt
 
 -- none, or from 0 to L
-abbrev pub AverageIn : Float → OptionF64 → Type 0
+abbrev pub AverageIn : Float → Option Float → Type 0
 AverageIn L None = Unit
 AverageIn L (Some a) = In zero₊ L a × T (fits binary64 a)
 
@@ -85,7 +83,7 @@ update-kept {factor} {L} {m} {value} limits h t k = go m.average k.average-in
     wide : (x : Float) → In zero₊ L x → In zero₊ (nat (10 ^ 14)) x
     wide x i = record { low = i.low; high = le_trans x L (nat (10 ^ 14)) i.high limits.limit-in.high }
 
-    go : (a : OptionF64) → AverageIn L a → Kept factor L (update_from a m value)
+    go : (a : Option Float) → AverageIn L a → Kept factor L (update_from a m value)
     go None i = record { factor-is = k.factor-is; average-in = (h, t); variance-in = k.variance-in; variance-fits = k.variance-fits; std-is = k.std-is }
     go (Some a) i = record {
       factor-is = k.factor-is;

@@ -12,29 +12,6 @@ pub struct Bitrate(pub f64);
 #[derive(Clone, Copy)]
 pub struct DataSize(pub i64);
 
-// Rust's `Option<Bitrate>`.
-#[derive(Clone, Copy)]
-pub enum OptionBitrate {
-    None,
-    Some(Bitrate),
-}
-
-// Rust's `i64::saturating_add`.
-fn saturating_add(a: i64, b: i64) -> i64
-    ensures { result ≡ B.saturating_add a b }
-{
-    if a >= 0 {
-        if b > i64::MAX - a {
-            return i64::MAX;
-        }
-        return a + b;
-    }
-    if b < i64::MIN - a {
-        return i64::MIN;
-    }
-    a + b
-}
-
 // How the path is used, as far as the delay tells (src/bwe/mod.rs).
 #[derive(Clone, Copy)]
 pub enum BandwidthUsage {
@@ -98,18 +75,6 @@ impl Bitrate {
     }
 }
 
-impl OptionBitrate {
-    // The same rate, put together anew, as `time::OptionInstant::copied`.
-    pub fn copied(self) -> Self
-        ensures { result ≡ self }
-    {
-        match self {
-            OptionBitrate::None => OptionBitrate::None,
-            OptionBitrate::Some(rate) => OptionBitrate::Some(Bitrate(rate.0)),
-        }
-    }
-}
-
 impl DataSize {
     pub const ZERO: DataSize = DataSize(0);
 
@@ -138,7 +103,7 @@ impl DataSize {
     pub fn add(self, other: DataSize) -> Self
         ensures { result ≡ B.add_size self other }
     {
-        DataSize(saturating_add(self.0, other.0))
+        DataSize(self.0.saturating_add(other.0))
     }
 
     // The rate that moves the size in so many seconds, and 0 where those are a zero.

@@ -10,7 +10,7 @@ ghost use Rattle.link.specs.Link as Calls;
 ghost use Rattle.link_runs.specs.Statement.Call.{report, timeout};
 ghost use Rattle.lent_calls.specs.LentCalls as Lent;
 
-use bandwidth::{BandwidthUsage, Bitrate, OptionBitrate};
+use bandwidth::{BandwidthUsage, Bitrate};
 use control::DelayController;
 use link::{Answer, Called, Opened, Opening};
 use link_state::Link;
@@ -108,13 +108,13 @@ fn in_range(link: &[u64; 100], lent: Link) -> bool
     link_words::formed(link) & lent.in_range()
 }
 
-fn probe_result(has_probe: u32, probe: f64) -> OptionBitrate
+fn probe_result(has_probe: u32, probe: f64) -> Option<Bitrate>
     ensures { result ≡ Lent.probe_result has_probe probe }
 {
     if has_probe == 0 {
-        return OptionBitrate::None;
+        return None;
     }
-    OptionBitrate::Some(Bitrate(probe))
+    Some(Bitrate(probe))
 }
 
 // A report to a link in range, its packets in the order of receipt. `link::report` gives the same; here no refusal copies the link.
@@ -126,7 +126,7 @@ fn report_in_order(
     sends: &[u64],
     remotes: &[u64],
     receives: &[u64],
-    probe: OptionBitrate,
+    probe: Option<Bitrate>,
     moment: u64,
     bitrate: &mut f64,
     hypothesis: &mut u32,

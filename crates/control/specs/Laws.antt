@@ -1,5 +1,5 @@
 -- Laws of the delay controller: the next timeout, a probe's estimate, what a call leaves as it was, and the range of the smoothed round trip.
-use Rattle.std.specs.Prelude.{ℕ, ◌/◌, ◌%◌, ◌^◌, ◌≤◌, ◌≡◌, List, [], ◌∷◌, T, ltb, Float, pos}
+use Rattle.std.specs.Prelude.{ℕ, ◌/◌, ◌%◌, ◌^◌, ◌≤◌, ◌≡◌, List, [], ◌∷◌, T, ltb, Float, pos, Option, Some, None}
 use Rattle.std.proofs.Common.{arith}
 use Rattle.std.proofs.Math.Path.{refl}
 use Rattle.std.specs.Float.Ieee.{binary64, div, fits, of_int}
@@ -15,11 +15,7 @@ use Rattle.average.specs.Laws as Average
 use Rattle.average.specs.declared.MovingAverage.{MovingAverage}
 use Rattle.bandwidth.specs.Bandwidth as B
 use Rattle.bandwidth.specs.declared.Bitrate.{Bitrate}
-use Rattle.bandwidth.specs.declared.OptionBitrate.{OptionBitrate}
-use Rattle.bandwidth.specs.declared.OptionBitrate.TheVariants as Rate
 use Rattle.time.specs.Time.{longest, saturating_add}
-use Rattle.time.specs.declared.OptionDuration.{OptionDuration}
-use Rattle.time.specs.declared.OptionDuration.TheVariants as Duration
 use Rattle.rate_control.specs.RateControl as RateControl
 use Rattle.control.specs.declared.DelayController.{DelayController}
 use Rattle.control.specs.Control.{
@@ -54,14 +50,14 @@ fold-keeps P k (x ∷ xs) [] h p = p
 fold-keeps P k {s} (x ∷ xs) (y ∷ ys) h p = fold-keeps P k xs ys h.2 (k s x y p h.0 h.1)
 
 -- ---- a report
-module _ (c : DelayController) (sends remotes receives : List ℕ) (acked : OptionBitrate) (now : ℕ) where
-  pub update-timeout : (probe : OptionBitrate) → (update c sends remotes receives acked probe now).next_timeout ≡ saturating_add now update_interval
+module _ (c : DelayController) (sends remotes receives : List ℕ) (acked : Option Bitrate) (now : ℕ) where
+  pub update-timeout : (probe : Option Bitrate) → (update c sends remotes receives acked probe now).next_timeout ≡ saturating_add now update_interval
   unfolding update update_estimate with_rate
   update-timeout probe = refl
 
   -- a probe's result, held to the limits, whatever the packets say
   pub update-probe : (p : Bitrate)
-      → (update c sends remotes receives acked (Rate.Some p) now).rate_control.estimated_bitrate ≡ B.clamp p c.rate_control.min_bitrate c.rate_control.max_bitrate
+      → (update c sends remotes receives acked (Some p) now).rate_control.estimated_bitrate ≡ B.clamp p c.rate_control.min_bitrate c.rate_control.max_bitrate
   unfolding update update_estimate with_rate with_packets RateControl.set_probe_result RateControl.update_estimate RateControl.with_estimate
   update-probe p = refl
 
@@ -72,12 +68,12 @@ pub record Unmeasured (before after : DelayController) : Type 0 where
   pub smoothed : after.smoothed_rtt ≡ before.smoothed_rtt
 
 -- a report of no packets measures nothing
-pub update-none : (c : DelayController) (remotes receives : List ℕ) (acked probe : OptionBitrate) (now : ℕ) → Unmeasured c (update c [] remotes receives acked probe now)
+pub update-none : (c : DelayController) (remotes receives : List ℕ) (acked probe : Option Bitrate) (now : ℕ) → Unmeasured c (update c [] remotes receives acked probe now)
 unfolding update update_estimate with_rate with_packets fold update_rtt
 update-none c remotes receives acked probe now = record { groups = refl; trendline = refl; smoothed = refl }
 
 -- ---- a timeout measures nothing, is no report, and asks for the next one within 25 ms
-module _ (c : DelayController) (acked : OptionBitrate) (now : ℕ) where
+module _ (c : DelayController) (acked : Option Bitrate) (now : ℕ) where
   pub timeout-none : Unmeasured c (handle_timeout c acked now)
   unfolding handle_timeout update_estimate with_rate
   timeout-none = chosen (Unmeasured c) (trendline_hypothesis_valid c now) (record { groups = refl; trendline = refl; smoothed = refl }) (record { groups = refl; trendline = refl; smoothed = refl })
@@ -92,14 +88,14 @@ module _ (c : DelayController) (acked : OptionBitrate) (now : ℕ) where
       chosen (λ (a : DelayController). a.next_timeout ≤ saturating_add now update_interval) (trendline_hypothesis_valid c now) (omega arith) (omega (arith, wait-le c))
 
 -- ---- the smoothed round trip
-abbrev pub AtMost : ℕ → OptionDuration → Type 0
-AtMost n Duration.None = Unit {0}
-AtMost n (Duration.Some d) = d ≤ n
+abbrev pub AtMost : ℕ → Option ℕ → Type 0
+AtMost n None = Unit {0}
+AtMost n (Some d) = d ≤ n
 
-pub longest-most : {n rtt : ℕ} (d : OptionDuration) → AtMost n d → rtt ≤ n → AtMost n (longest d rtt)
+pub longest-most : {n rtt : ℕ} (d : Option ℕ) → AtMost n d → rtt ≤ n → AtMost n (longest d rtt)
 unfolding longest
-longest-most Duration.None h k = k
-longest-most {n} {rtt} (Duration.Some d) h k = chosen (λ x. x ≤ n) (ltb d rtt) k h
+longest-most None h k = k
+longest-most {n} {rtt} (Some d) h k = chosen (λ x. x ≤ n) (ltb d rtt) k h
 
 pub max-rtt-most : (n : ℕ) (sends receives : List ℕ) → Instants n sends receives → AtMost n (max_rtt sends receives)
 max-rtt-most n sends receives h = fold-keeps (AtMost n) (λ d s l g i j. longest-most d g (omega arith)) sends receives h tt
@@ -122,13 +118,13 @@ unfolding as_secs_f64
 secs-fits n = add-fits binary64 (of_int binary64 (pos (n / 10 ^ 9))) (div binary64 (of_int binary64 (pos (n % 10 ^ 9))) (of_int binary64 (pos (10 ^ 9))))
 
 -- of round trips to 10 ^ 18 ns the smoothed one stays from 0 to 10 ^ 9 seconds, and its variance in range
-pub update-rtt-kept : {m : MovingAverage} (d : OptionDuration) → AtMost (10 ^ 18) d → KeptRtt m → KeptRtt (update_rtt m d)
+pub update-rtt-kept : {m : MovingAverage} (d : Option ℕ) → AtMost (10 ^ 18) d → KeptRtt m → KeptRtt (update_rtt m d)
 unfolding update_rtt
-update-rtt-kept Duration.None h k = k
-update-rtt-kept (Duration.Some d) h k =
+update-rtt-kept None h k = k
+update-rtt-kept (Some d) h k =
     Average.update-kept trips (in-wider (secs-in d (10 ^ 18) h (omega arith)) (unfold as_secs_f64 floats in tt)) (secs-fits d) k
 
-pub update-kept : (c : DelayController) (sends remotes receives : List ℕ) (acked probe : OptionBitrate) (now : ℕ) → Instants (10 ^ 18) sends receives → KeptRtt c.smoothed_rtt
+pub update-kept : (c : DelayController) (sends remotes receives : List ℕ) (acked probe : Option Bitrate) (now : ℕ) → Instants (10 ^ 18) sends receives → KeptRtt c.smoothed_rtt
     → KeptRtt (update c sends remotes receives acked probe now).smoothed_rtt
 unfolding update update_estimate with_rate with_packets
 update-kept c sends remotes receives acked probe now h k =

@@ -5,11 +5,10 @@
 ghost use Rattle.std.specs.Prelude.{◌≡◌, min};
 ghost use Rattle.control.specs.Control as Control;
 
-use arrival_group::{ArrivalGroupAccumulator, OptionDelta};
-use average::{MovingAverage, OptionF64};
-use bandwidth::{BandwidthUsage, Bitrate, OptionBitrate};
+use arrival_group::{ArrivalGroupAccumulator};
+use average::{MovingAverage};
+use bandwidth::{BandwidthUsage, Bitrate};
 use rate_control::{RateControl, Signal};
-use time::{OptionDuration, OptionInstant};
 use trendline::TrendlineEstimator;
 
 const UPDATE_INTERVAL: u64 = 25_000_000;
@@ -26,7 +25,7 @@ pub struct DelayController {
     // When to poll next; 0, which is due, before the first call.
     pub next_timeout: u64,
     // When the last report was taken.
-    pub last_twcc_report: OptionInstant,
+    pub last_twcc_report: Option<u64>,
 }
 
 // What a report's packets go through: the groups, and the trendline of the delays between them.
@@ -53,10 +52,10 @@ fn shorter(a: usize, b: usize) -> usize
 }
 
 // The greatest round trip of a report's packets, where there is one; what one list has more is left out.
-fn max_rtt(local_send_times: &[u64], local_recv_times: &[u64]) -> OptionDuration
+fn max_rtt(local_send_times: &[u64], local_recv_times: &[u64]) -> Option<u64>
     ensures { result ≡ Control.max_rtt local_send_times.now local_recv_times.now }
 {
-    let mut max_rtt = OptionDuration::None;
+    let mut max_rtt = None;
     let n = shorter(local_send_times.len(), local_recv_times.len());
     let mut i = 0;
     while i < n {
@@ -81,8 +80,8 @@ impl DelayDetector {
             let done = accumulator.accumulate_packet(local_send_time, remote_recv_times[i]);
             let after = done.accumulator;
             let delta = done.delta;
-            accumulator = after.copied();
-            if let OptionDelta::Some(variation) = delta {
+            accumulator = after;
+            if let Some(variation) = delta {
                 trendline = trendline.add_delay_observation(
                     variation,
                     variation.last_remote_recv_time,
@@ -117,7 +116,7 @@ impl DelayController {
             rate_control,
             smoothed_rtt,
             next_timeout: 0,
-            last_twcc_report: OptionInstant::None,
+            last_twcc_report: None,
         }
     }
 
@@ -142,7 +141,7 @@ impl DelayController {
     }
 
     // The smoothed round trip in ns: the nearest, ties to even.
-    pub fn get_smoothed_rtt(self) -> OptionDuration
+    pub fn get_smoothed_rtt(self) -> Option<u64>
         ensures { result ≡ Control.get_smoothed_rtt self }
     {
         let smoothed_rtt = self.smoothed_rtt;
@@ -163,7 +162,7 @@ impl DelayController {
     fn wait(self) -> u64
         ensures { result ≡ Control.wait self }
     {
-        let rtt = time::duration_or(self.get_smoothed_rtt(), MAX_TWCC_GAP);
+        let rtt = self.get_smoothed_rtt().unwrap_or(MAX_TWCC_GAP);
         if rtt < UPDATE_INTERVAL {
             return rtt;
         }
@@ -175,7 +174,7 @@ impl DelayController {
         ensures { result ≡ Control.trendline_hypothesis_valid self now }
     {
         let last_twcc_report = self.last_twcc_report;
-        let OptionInstant::Some(last) = last_twcc_report else {
+        let Some(last) = last_twcc_report else {
             return false;
         };
         time::saturating_duration_since(now, last) <= 2 * self.wait()
@@ -187,8 +186,8 @@ impl DelayController {
         local_send_times: &[u64],
         remote_recv_times: &[u64],
         local_recv_times: &[u64],
-        acked_bitrate: OptionBitrate,
-        probe_bitrate: OptionBitrate,
+        acked_bitrate: Option<Bitrate>,
+        probe_bitrate: Option<Bitrate>,
         moment: u64,
     ) -> Self
         ensures { result ≡ Control.update self local_send_times.now remote_recv_times.now local_recv_times.now acked_bitrate probe_bitrate moment }
@@ -218,13 +217,13 @@ impl DelayController {
             trendline_estimator,
             rate_control,
             smoothed_rtt,
-            next_timeout: time::saturating_add(moment, UPDATE_INTERVAL),
-            last_twcc_report: OptionInstant::Some(moment),
+            next_timeout: moment.saturating_add(UPDATE_INTERVAL),
+            last_twcc_report: Some(moment),
         }
     }
 
     // What a timeout changes. A hypothesis that is too old waits for the next report.
-    fn timed(self, acked_bitrate: OptionBitrate, now: u64) -> Timed
+    fn timed(self, acked_bitrate: Option<Bitrate>, now: u64) -> Timed
         ensures { Control.with_rate self result.rate_control result.next_timeout ≡ Control.handle_timeout self acked_bitrate now }
     {
         let rate_control = self.rate_control;
@@ -232,23 +231,23 @@ impl DelayController {
         if self.trendline_hypothesis_valid(now) {
             return Timed {
                 rate_control: rate_from(
-                    OptionBitrate::None,
+                    None,
                     acked_bitrate,
                     rate_control,
                     self.hypothesis(),
                     smoothed_rtt,
                     now,
                 ),
-                next_timeout: time::saturating_add(now, UPDATE_INTERVAL),
+                next_timeout: now.saturating_add(UPDATE_INTERVAL),
             };
         }
         Timed {
             rate_control,
-            next_timeout: time::saturating_add(now, self.wait()),
+            next_timeout: now.saturating_add(self.wait()),
         }
     }
 
-    pub fn handle_timeout(self, acked_bitrate: OptionBitrate, now: u64) -> Self
+    pub fn handle_timeout(self, acked_bitrate: Option<Bitrate>, now: u64) -> Self
         ensures { result ≡ Control.handle_timeout self acked_bitrate now }
     {
         let timed = self.timed(acked_bitrate, now);
@@ -258,20 +257,20 @@ impl DelayController {
 }
 
 // A smoothed round trip in ns: the nearest, ties to even.
-fn rtt_of(smoothed_rtt: MovingAverage) -> OptionDuration
+fn rtt_of(smoothed_rtt: MovingAverage) -> Option<u64>
     ensures { result ≡ Control.rtt_of smoothed_rtt.average }
 {
     let average = smoothed_rtt.get();
     match average {
-        OptionF64::None => OptionDuration::None,
-        OptionF64::Some(secs) => OptionDuration::Some(seconds::from_secs_f64(secs)),
+        None => None,
+        Some(secs) => Some(seconds::from_secs_f64(secs)),
     }
 }
 
 // A probe's result is applied as it is; else the observed rate, where there is one, goes to the rate control.
 fn rate_from(
-    probe_bitrate: OptionBitrate,
-    observed_bitrate: OptionBitrate,
+    probe_bitrate: Option<Bitrate>,
+    observed_bitrate: Option<Bitrate>,
     rate_control: RateControl,
     hypothesis: BandwidthUsage,
     smoothed_rtt: MovingAverage,
@@ -279,28 +278,26 @@ fn rate_from(
 ) -> RateControl
     ensures { result ≡ Control.rate_from probe_bitrate observed_bitrate rate_control hypothesis (Control.rtt_of smoothed_rtt.average) now }
 {
-    if let OptionBitrate::Some(probe) = probe_bitrate {
-        return rate_control.set_probe_result(probe, now).copied();
+    if let Some(probe) = probe_bitrate {
+        return rate_control.set_probe_result(probe, now);
     }
-    let OptionBitrate::Some(observed) = observed_bitrate else {
-        return rate_control.copied();
+    let Some(observed) = observed_bitrate else {
+        return rate_control;
     };
-    rate_control
-        .update(
-            Signal::from(hypothesis),
-            observed,
-            rtt_of(smoothed_rtt),
-            now,
-        )
-        .copied()
+    rate_control.update(
+        Signal::from(hypothesis),
+        observed,
+        rtt_of(smoothed_rtt),
+        now,
+    )
 }
 
 // The smoothed round trip after a report's greatest.
-fn update_rtt(smoothed_rtt: MovingAverage, max_rtt: OptionDuration) -> MovingAverage
+fn update_rtt(smoothed_rtt: MovingAverage, max_rtt: Option<u64>) -> MovingAverage
     ensures { result ≡ Control.update_rtt smoothed_rtt max_rtt }
 {
     match max_rtt {
-        OptionDuration::None => smoothed_rtt,
-        OptionDuration::Some(rtt) => smoothed_rtt.update(seconds::as_secs_f64(rtt)),
+        None => smoothed_rtt,
+        Some(rtt) => smoothed_rtt.update(seconds::as_secs_f64(rtt)),
     }
 }

@@ -1,6 +1,6 @@
 -- Values of a link are of their types (`LinkHeld`: a float is one of binary64, the byte sum an i64, an array has 20 elements). An accepted opening gives it, and
 -- every call keeps it, of any link whatever.
-use Rattle.std.specs.Prelude.{ℕ, zero, suc, ◌^◌, ◌-◌, ◌≡◌, refl, false, List, [], ◌∷◌, ◌++◌, ltb, eqb, ℤ, pos, negsuc, take, replicate, Float}
+use Rattle.std.specs.Prelude.{ℕ, zero, suc, ◌^◌, ◌-◌, ◌≡◌, refl, false, List, [], ◌∷◌, ◌++◌, ltb, eqb, ℤ, pos, negsuc, take, replicate, Float, Option, Some, None}
 use Rattle.std.proofs.Common.{arith, ◌∙◌, ltb-false, SFits}
 use Rattle.std.specs.Int.Signed.{lt_z}
 use Rattle.std.proofs.Math.ListN.{drop}
@@ -15,28 +15,17 @@ use Rattle.float.specs.Float as Float
 use Rattle.sqrt.specs.Laws.{sqrt-fits}
 use Rattle.seconds.specs.Seconds.{as_secs_f64}
 use Rattle.average.specs.Average as Average
-use Rattle.average.specs.declared.OptionF64.{OptionF64}
-use Rattle.average.specs.declared.OptionF64.TheVariants as F64
 use Rattle.average.specs.declared.MovingAverage.{MovingAverage}
 use Rattle.bandwidth.specs.Bandwidth as B
 use Rattle.bandwidth.specs.declared.Bitrate.{Bitrate}
 use Rattle.bandwidth.specs.declared.DataSize.{DataSize}
-use Rattle.bandwidth.specs.declared.OptionBitrate.{OptionBitrate}
-use Rattle.bandwidth.specs.declared.OptionBitrate.TheVariants as Rate
-use Rattle.time.specs.declared.OptionInstant.{OptionInstant}
-use Rattle.time.specs.declared.OptionInstant.TheVariants as Instant
-use Rattle.time.specs.declared.OptionDuration.{OptionDuration}
-use Rattle.time.specs.declared.OptionDuration.TheVariants as Duration
 use Rattle.time.specs.declared.TimeDelta.{TimeDelta}
 use Rattle.acked_bitrate_estimator.specs.AckedBitrateEstimator as Acked
 use Rattle.acked_bitrate_estimator.specs.declared.AckedBitrateEstimator.{AckedBitrateEstimator}
 use Rattle.acked_bitrate_estimator.specs.declared.Window.{Window}
-use Rattle.acked_bitrate_estimator.specs.declared.OptionSample.{OptionSample}
-use Rattle.acked_bitrate_estimator.specs.declared.OptionSample.TheVariants as Sample
+use Rattle.acked_bitrate_estimator.specs.declared.Sample.{Sample}
 use Rattle.arrival_group.specs.ArrivalGroup as Group
 use Rattle.arrival_group.specs.declared.InterGroupDelayDelta.{InterGroupDelayDelta}
-use Rattle.arrival_group.specs.declared.OptionDelta.{OptionDelta}
-use Rattle.arrival_group.specs.declared.OptionDelta.TheVariants as Delta
 use Rattle.trendline.specs.Trendline as Trendline
 use Rattle.trendline.specs.History.{insert-length, insert-full-length}
 use Rattle.trendline.specs.declared.History.{History}
@@ -83,9 +72,9 @@ update-average : (m : MovingAverage) (value : Float) → Held value → AverageH
 unfolding Average.update
 update-average m value v h = go m.average
   where
-    go : (a : OptionF64) → AverageHeld (Average.update_from a m value)
-    go F64.None = record { factor = h.factor; average = v; variance = h.variance; std = h.std }
-    go (F64.Some a) = record { factor = h.factor; average = add-fits binary64 _ _; variance = mul-fits binary64 _ _; std = sqrt-fits _ (mul-fits binary64 _ _) }
+    go : (a : Option Float) → AverageHeld (Average.update_from a m value)
+    go None = record { factor = h.factor; average = v; variance = h.variance; std = h.std }
+    go (Some a) = record { factor = h.factor; average = add-fits binary64 _ _; variance = mul-fits binary64 _ _; std = sqrt-fits _ (mul-fits binary64 _ _) }
 
 -- ---- the acknowledged rate
 saturated-held : (z : ℤ) → SFits w64 (B.saturated z)
@@ -102,9 +91,9 @@ none-held = record { sfits = omega arith }
 new-acked : (initial window : ℕ) → AckedHeld (Acked.new initial window)
 new-acked initial window = record { estimate = tt; variance = lit-held _; sum = none-held }
 
-abbrev SampleHeld : OptionSample → Type 0
-SampleHeld Sample.None = Unit {0}
-SampleHeld (Sample.Some rate small) = Held rate.0
+abbrev SampleHeld : Option Sample → Type 0
+SampleHeld None = Unit {0}
+SampleHeld (Some s) = Held s.rate.0
 
 sample-held : (w : Window) (length : ℕ) → SampleHeld (Acked.sample w length)
 unfolding Acked.sample B.per_secs
@@ -114,14 +103,14 @@ with-packet : (w : Window) (size : DataSize) (length : ℕ) → SFits w64 (Acked
 unfolding Acked.with_packet
 with-packet w size length = chosen (λ (v : Window). SFits w64 v.sum.0) (ltb w.elapsed length) (saturated-held _) (saturated-held _)
 
-with-sample : (a : AckedBitrateEstimator) (s : OptionSample) → SampleHeld s → AckedHeld a → AckedHeld (Acked.with_sample a s)
+with-sample : (a : AckedBitrateEstimator) (s : Option Sample) → SampleHeld s → AckedHeld a → AckedHeld (Acked.with_sample a s)
 unfolding Acked.with_sample Acked.weigh
-with-sample a Sample.None k h = h
-with-sample a (Sample.Some rate small) k h = go a.estimate
+with-sample a None k h = h
+with-sample a (Some s) k h = go a.estimate
   where
-    go : (e : OptionBitrate) → AckedHeld (Acked.estimate_from e a rate small)
-    go Rate.None = record { estimate = k; variance = h.variance; sum = h.sum }
-    go (Rate.Some e) = record { estimate = of_int-fits binary64 _; variance = div-fits binary64 _ _; sum = h.sum }
+    go : (e : Option Bitrate) → AckedHeld (Acked.estimate_from e a s.rate s.is_small)
+    go None = record { estimate = k; variance = h.variance; sum = h.sum }
+    go (Some e) = record { estimate = of_int-fits binary64 _; variance = div-fits binary64 _ _; sum = h.sum }
 
 filled-held : (a : AckedBitrateEstimator) (w : Window) (t : ℕ) (size : DataSize) → AckedHeld a → AckedHeld (Acked.filled a w t size)
 unfolding Acked.filled
@@ -133,9 +122,9 @@ update-acked : (a : AckedBitrateEstimator) (t : ℕ) (size : DataSize) → Acked
 unfolding Acked.update
 update-acked a t size h = go a.last_update
   where
-    go : (last : OptionInstant) → AckedHeld (Acked.update_since last a t size)
-    go Instant.None = filled-held a (Acked.current_window a) t size h
-    go (Instant.Some last) = chosen AckedHeld (ltb t last) (record { estimate = h.estimate; variance = h.variance; sum = none-held }) (filled-held a _ t size h)
+    go : (last : Option ℕ) → AckedHeld (Acked.update_since last a t size)
+    go None = filled-held a (Acked.current_window a) t size h
+    go (Some last) = chosen AckedHeld (ltb t last) (record { estimate = h.estimate; variance = h.variance; sum = none-held }) (filled-held a _ t size h)
 
 acknowledge-held : (a : AckedBitrateEstimator) (remotes sizes : List ℕ) → AckedHeld a → AckedHeld (L.acknowledge a remotes sizes)
 unfolding L.acknowledge
@@ -259,10 +248,10 @@ detect-held t trend sent now k h =
     chosen TrendlineHeld (ltb t.delays.num_delay_variations 2) (trendline-of (history-of h) (delays-of h))
     (trendline-of (history-of h) (record { accumulated = h.accumulated; smoothed = h.smoothed; threshold = threshold-held t.delays _ _ h.threshold; trend = k }))
 
-observe-held : (d : OptionDelta) (t : TrendlineEstimator) → TrendlineHeld t → TrendlineHeld (Control.observe d t)
+observe-held : (d : Option InterGroupDelayDelta) (t : TrendlineEstimator) → TrendlineHeld t → TrendlineHeld (Control.observe d t)
 unfolding Trendline.add_delay_observation
-observe-held Delta.None t h = h
-observe-held (Delta.Some v) t h =
+observe-held None t h = h
+observe-held (Some v) t h =
     let next = Trendline.add_to_history t v in
     let k = add-to-history t v h in
     chosen TrendlineHeld (eqb next.history.len 20)
@@ -295,17 +284,17 @@ reset-below : (m : MovingAverage) (value : Float) → AverageHeld m → AverageH
 unfolding Rates.reset_below
 reset-below m value h = go (Average.lower_range m Rates.three)
   where
-    go : (lower : OptionF64) → AverageHeld (Rates.reset_under lower m value)
-    go F64.None = h
-    go (F64.Some lower) = chosen AverageHeld (Ieee.lt value lower) (reset-held m h) h
+    go : (lower : Option Float) → AverageHeld (Rates.reset_under lower m value)
+    go None = h
+    go (Some lower) = chosen AverageHeld (Ieee.lt value lower) (reset-held m h) h
 
 reset-above : (m : MovingAverage) (value : Float) → AverageHeld m → AverageHeld (Rates.reset_above m value)
 unfolding Rates.reset_above
 reset-above m value h = go (Average.upper_range m Rates.three)
   where
-    go : (upper : OptionF64) → AverageHeld (Rates.reset_over upper m value)
-    go F64.None = h
-    go (F64.Some upper) = chosen AverageHeld (Ieee.lt upper value) (reset-held m h) h
+    go : (upper : Option Float) → AverageHeld (Rates.reset_over upper m value)
+    go None = h
+    go (Some upper) = chosen AverageHeld (Ieee.lt upper value) (reset-held m h) h
 
 raised-held : (c : RateControl) (since : ℕ) → Held (Rates.raised c since)
 unfolding Rates.raised Rates.additive_increase Rates.multiplicative_increase
@@ -340,24 +329,24 @@ module _ (observed : Bitrate) (now : ℕ) (k : Held observed.0) where
       chosen RateControlHeld (Rates.time_to_reduce_further counted now observed) (decrease-held counted (counted-held c h)) (counted-held c h)
   update-in Hold c h = h
 
-  update-rate : (c : RateControl) (s : Signal) (rtt : OptionDuration) → RateControlHeld c → RateControlHeld (Rates.update c s observed rtt now)
+  update-rate : (c : RateControl) (s : Signal) (rtt : Option ℕ) → RateControlHeld c → RateControlHeld (Rates.update c s observed rtt now)
   unfolding Rates.update Rates.with_inputs
   update-rate c s rtt h =
       update-in (Rates.transition c.state s) (Rates.with_inputs c s observed rtt)
       (record { estimate = h.estimate; least = h.least; most = h.most; observed = k; averaged = h.averaged })
 
-rate-held : (probe observed : OptionBitrate) (c : DelayController) (now : ℕ) → RateHeld probe → RateHeld observed → RateControlHeld c.rate_control
+rate-held : (probe observed : Option Bitrate) (c : DelayController) (now : ℕ) → RateHeld probe → RateHeld observed → RateControlHeld c.rate_control
     → RateControlHeld (Control.rate_after probe observed c now)
 unfolding Rates.set_probe_result
-rate-held (Rate.Some p) observed c now k o h = update-estimate c.rate_control p now k h
-rate-held Rate.None Rate.None c now k o h = h
-rate-held Rate.None (Rate.Some b) c now k o h = update-rate b now o c.rate_control (Rates.signal c.trendline_estimator.hypothesis) (Control.get_smoothed_rtt c) h
+rate-held (Some p) observed c now k o h = update-estimate c.rate_control p now k h
+rate-held None None c now k o h = h
+rate-held None (Some b) c now k o h = update-rate b now o c.rate_control (Rates.signal c.trendline_estimator.hypothesis) (Control.get_smoothed_rtt c) h
 
 -- ---- the round trip
-rtt-held : (m : MovingAverage) (rtt : OptionDuration) → AverageHeld m → AverageHeld (Control.update_rtt m rtt)
+rtt-held : (m : MovingAverage) (rtt : Option ℕ) → AverageHeld m → AverageHeld (Control.update_rtt m rtt)
 unfolding Control.update_rtt
-rtt-held m Duration.None h = h
-rtt-held m (Duration.Some rtt) h = update-average m (as_secs_f64 rtt) (secs-fits rtt) h
+rtt-held m None h = h
+rtt-held m (Some rtt) h = update-average m (as_secs_f64 rtt) (secs-fits rtt) h
 
 -- ---- a call
 pub updated-held : (l : Link) (r : Report) → RateHeld r.probe → LinkHeld l → LinkHeld (L.updated l r)
@@ -379,7 +368,7 @@ timed-out-held l now h =
     (record {
       acked = h.acked;
       trendline = h.trendline;
-      rate-control = rate-held Rate.None l.acked.estimate l.control now tt h.acked.estimate h.rate-control;
+      rate-control = rate-held None l.acked.estimate l.control now tt h.acked.estimate h.rate-control;
       smoothed-rtt = h.smoothed-rtt;
     })
     (record { acked = h.acked; trendline = h.trendline; rate-control = h.rate-control; smoothed-rtt = h.smoothed-rtt })

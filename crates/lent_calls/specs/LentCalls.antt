@@ -1,8 +1,7 @@
 -- Calls on a link that is lent as words: what each answers, and what the words and the lent places then hold. Words that stand for no link, an unknown tag or
 -- another format, are met by question 1's number. A refusal leaves the words, and every lent place, as they were.
-use Rattle.std.specs.Prelude.{ℕ, cond, List, eqb, ℤ, pos, neg_ℤ, Float}
-use Rattle.bandwidth.specs.declared.OptionBitrate.{OptionBitrate}
-use Rattle.bandwidth.specs.declared.OptionBitrate.TheVariants as Rate
+use Rattle.bandwidth.specs.declared.Bitrate.{Bitrate}
+use Rattle.std.specs.Prelude.{ℕ, cond, List, eqb, ℤ, pos, neg_ℤ, Float, Option, Some, None}
 use Rattle.link_state.specs.State.{in_range}
 use Rattle.link_state.specs.declared.Link.{Link}
 use Rattle.link_words.specs.LinkWords.{formed, hypothesis_tag, of_words, timeout_words, to_words}
@@ -42,8 +41,8 @@ open_words (turned_down n) before = before
 
 -- ---- report and timeout
 -- a report's probe: a flag, which is 0 where there is none, and its result in bps
-unfoldable pub probe_result : ℕ → Float → OptionBitrate
-probe_result flag result = cond (eqb flag 0) Rate.None (Rate.Some (record { 0 = result }))
+unfoldable pub probe_result : ℕ → Float → Option Bitrate
+probe_result flag result = cond (eqb flag 0) None (Some (record { 0 = result }))
 
 unfoldable pub reply_to : List ℕ → Call → Reply
 reply_to w k = cond (formed w) (call (of_words w) k).reply (refused 1)

@@ -7,7 +7,7 @@
 ghost use Rattle.std.specs.Prelude.{◌≤◌};
 
 use acked_bitrate_estimator::AckedBitrateEstimator;
-use bandwidth::{BandwidthUsage, Bitrate, OptionBitrate};
+use bandwidth::{BandwidthUsage, Bitrate};
 use cases::{Case, Counts};
 use control::DelayController;
 use link::{Answer, Called};
@@ -72,11 +72,11 @@ fn same(a: &[u64; 100], b: &[u64; 100]) -> bool {
     same
 }
 
-fn probe(flag: u64, b: u64) -> OptionBitrate {
+fn probe(flag: u64, b: u64) -> Option<Bitrate> {
     if flag == 1 {
-        return OptionBitrate::Some(Bitrate(float_bits::from_bits(b)));
+        return Some(Bitrate(float_bits::from_bits(b)));
     }
-    OptionBitrate::None
+    None
 }
 
 // How many packets a case has.

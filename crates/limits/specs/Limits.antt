@@ -1,5 +1,6 @@
 -- Document 01's limits, and those of order 1 of document 02, as one table, each as the document writes it beside what stands for it in the definitions. They are equal: proofs/Limits.antt.
-use Rattle.std.specs.Prelude.{ℕ, ◌+◌, ◌-◌, ◌*◌, ◌^◌, ◌<◌, ◌≡◌, Bool, not, List, [], ◌∷◌, ◌++◌, T, eqb, replicate, Float}
+use Rattle.bandwidth.specs.declared.Bitrate.{Bitrate}
+use Rattle.std.specs.Prelude.{ℕ, ◌+◌, ◌-◌, ◌*◌, ◌^◌, ◌<◌, ◌≡◌, Bool, not, List, [], ◌∷◌, ◌++◌, T, eqb, replicate, Float, Option, Some, None}
 use Rattle.std.specs.Float.{binary64}
 use Rattle.std.specs.Float.Ieee.{of_bits, to_bits}
 use Rattle.std.specs.Float.Ieee.Positive.{den}
@@ -7,8 +8,6 @@ use Rattle.float_order.specs.Order.{over}
 use Rattle.float_order.specs.Dyadic.{Is}
 use Rattle.growth.specs.Growth.{last_entry}
 use Rattle.bandwidth.specs.Bandwidth.{bps, min_estimate, max_estimate, most_rate, most_sum}
-use Rattle.bandwidth.specs.declared.OptionBitrate.{OptionBitrate}
-use Rattle.bandwidth.specs.declared.OptionBitrate.TheVariants as Rate
 use Rattle.time.specs.Time as Time
 use Rattle.acked_bitrate_estimator.specs.AckedBitrateEstimator as Acked
 use Rattle.trendline.specs.Trendline.{most_timings, window_size, max_delay_count, max_overuse_count, min_threshold_ms, max_threshold_ms}
@@ -65,7 +64,7 @@ abbrev pub ms : ℕ → ℕ
 ms n = n * 10 ^ 6
 
 -- a report of n packets that are alike
-abbrev pub packets : ℕ → ℕ → ℕ → OptionBitrate → ℕ → Report
+abbrev pub packets : ℕ → ℕ → ℕ → Option Bitrate → ℕ → Report
 packets n size instant probe now = report-of (replicate n 0) (replicate n size) (replicate n instant) (replicate n instant) (replicate n instant) probe now
 
 -- the bytes of a record of which only these differ from 0
@@ -161,8 +160,8 @@ rows =
     -- the numbers of the questions: 0 at the limits, and each just past one. (1,024 packets by questions 4 to 8: to put them in order takes too long here.)
     ∷ row 0 (number (opening 40000 (ms 1)))
     ∷ row 0 (number (opening (10 ^ 10) (ms 10000)))
-    ∷ row 0 (number (report (packets 1 2147483647 (10 ^ 18) (Rate.Some (bps (10 ^ 14))) (10 ^ 18))))
-    ∷ row 0 (number (Q.first_no (of_report (packets 1024 1 (10 ^ 18) Rate.None 0))))
+    ∷ row 0 (number (report (packets 1 2147483647 (10 ^ 18) (Some (bps (10 ^ 14))) (10 ^ 18))))
+    ∷ row 0 (number (Q.first_no (of_report (packets 1024 1 (10 ^ 18) None 0))))
     ∷ row 0 (number (file (records 1365) 65536))
     ∷ row 0 (number (file (records 1366) 65568))
     ∷ row 1 (number (Q.first_no (timeout_questions (L.new (bps 39999) (ms 500) (ms 150)) 0)))
@@ -171,13 +170,13 @@ rows =
     ∷ row 3 (number (opening 40000 0))
     ∷ row 3 (number (opening 40000 (ms 10001)))
     ∷ row 3 (number (opening 40000 1500000))
-    ∷ row 4 (number (report (packets 1025 1 0 Rate.None 0)))
-    ∷ row 5 (number (report (packets 1 1 (10 ^ 18 + 1) Rate.None 0)))
-    ∷ row 6 (number (report (packets 1 0 0 Rate.None 0)))
-    ∷ row 7 (number (report (packets 1 1 0 Rate.None (10 ^ 18 + 10 ^ 6))))
-    ∷ row 7 (number (report (packets 1 1 0 Rate.None 1)))
-    ∷ row 8 (number (report (packets 1 1 0 (Rate.Some (bps (10 ^ 14 + 1))) 0)))
-    ∷ row 9 (number (report (packets 1 2147483648 0 Rate.None 0)))
+    ∷ row 4 (number (report (packets 1025 1 0 None 0)))
+    ∷ row 5 (number (report (packets 1 1 (10 ^ 18 + 1) None 0)))
+    ∷ row 6 (number (report (packets 1 0 0 None 0)))
+    ∷ row 7 (number (report (packets 1 1 0 None (10 ^ 18 + 10 ^ 6))))
+    ∷ row 7 (number (report (packets 1 1 0 None 1)))
+    ∷ row 8 (number (report (packets 1 1 0 (Some (bps (10 ^ 14 + 1))) 0)))
+    ∷ row 9 (number (report (packets 1 2147483648 0 None 0)))
     ∷ row 10 (number (file [] 65536))
     ∷ row 10 (number (Records.number (Records.judge 1365 (records 1366) 65568)))
     ∷ row 11 (number (file (bytes 0 4 0) 65536))

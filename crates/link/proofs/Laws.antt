@@ -1,4 +1,5 @@
 -- The loops over a report's lists, lists gathered in the order of receipt, and a report's first no.
+use Rattle.std.specs.Prelude.{Option}
 use Prim.Native.Nat.{ℕ, zero, suc, ◌+◌, ◌-◌, ◌<◌, ◌≤◌}
 use native.Mathlib.Numerals.{add-one}
 use native.Mathlib.Omega.{arith}
@@ -9,7 +10,6 @@ use lib.ListN.{length, take, drop, drop_of_length-le, get_or}
 use lib.Seq.{drop-cons}
 use Rattle.bandwidth.specs.declared.Bitrate.{Bitrate}
 use Rattle.bandwidth.specs.declared.DataSize.{DataSize}
-use Rattle.bandwidth.specs.declared.OptionBitrate.{OptionBitrate}
 use Rattle.control.specs.Control as Control
 use Rattle.control.specs.declared.DelayController.{DelayController}
 use Rattle.link_state.specs.declared.Link.{Link}
@@ -167,7 +167,7 @@ module _ (l : Link) (now : ℕ) where
   pub timed-refused : (q : Refusal) → number q ≡ first_no (of_timeout now) → refused_by (number q) l ≡ outcome_unless (first_no (of_timeout now)) l (timed_out l now)
   timed-refused q e = rw (sym e) (sym (outcome-refused l (timed_out l now) (number q) (number-above q)))
 
-  pub timed-taken : {rate : OptionBitrate} {control : DelayController} → 0 ≡ first_no (of_timeout now) → rate ≡ l.acked.estimate
+  pub timed-taken : {rate : Option Bitrate} {control : DelayController} → 0 ≡ first_no (of_timeout now) → rate ≡ l.acked.estimate
       → control ≡ Control.handle_timeout l.control rate now → accepted_with (record { acked = l.acked; control = control }) ≡ outcome_unless (first_no (of_timeout now)) l (timed_out l now)
   unfolding outcome_unless timed_out
   timed-taken e er ec = rw (sym e, ec, er)

@@ -1,9 +1,8 @@
 -- Laws of a link's calls: what they give where a question is the first that is answered with no, and where none is. Of question k, nk says that its answer is
 -- no, yk that it is yes.
-use Rattle.std.specs.Prelude.{ℕ, zero, suc, ◌<◌, ◌≡◌, refl, Bool, true, false, ◌&&◌, List, [], ◌∷◌, ◌++◌}
+use Rattle.std.specs.Prelude.{ℕ, zero, suc, ◌<◌, ◌≡◌, refl, Bool, true, false, ◌&&◌, List, [], ◌∷◌, ◌++◌, Option}
 use Rattle.std.proofs.Common.{arith, sym, ◌∙◌}
 use Rattle.bandwidth.specs.declared.Bitrate.{Bitrate}
-use Rattle.bandwidth.specs.declared.OptionBitrate.{OptionBitrate}
 use Rattle.acked_bitrate_estimator.specs.declared.AckedBitrateEstimator.{AckedBitrateEstimator}
 use Rattle.control.specs.Control as Control
 use Rattle.control.specs.declared.DelayController.{DelayController}
@@ -104,7 +103,7 @@ module _ (l : Link) (r : Report) where
   pub in-order-refused : {n : ℕ} → first_no_in_order l.acked r ≡ n → 0 < n → report_in_order l r ≡ refused_by n l
   in-order-refused {n} e h = rw e (outcome-refused l (updated l r) n h)
 
-  pub in-order-taken : {acked : AckedBitrateEstimator} {control : DelayController} {rate : OptionBitrate} → first_no_in_order l.acked r ≡ 0
+  pub in-order-taken : {acked : AckedBitrateEstimator} {control : DelayController} {rate : Option Bitrate} → first_no_in_order l.acked r ≡ 0
       → acked ≡ acknowledge l.acked r.remotes r.sizes → rate ≡ acked.estimate
       → control ≡ Control.update l.control r.sends r.remotes r.receives rate r.probe r.now
       → report_in_order l r ≡ accepted_with (record { acked = acked; control = control })

@@ -8,7 +8,7 @@ ghost use Rattle.link_state.specs.State.{in_range};
 ghost use Rattle.link.specs.Link as Calls;
 
 use acked_bitrate_estimator::AckedBitrateEstimator;
-use bandwidth::{BandwidthUsage, Bitrate, DataSize, OptionBitrate};
+use bandwidth::{BandwidthUsage, Bitrate, DataSize};
 use control::DelayController;
 use link_state::Link;
 use questions::{OptionRefusal, Refusal};
@@ -126,7 +126,7 @@ fn acknowledge(acked: AckedBitrateEstimator, remotes: &[u64], sizes: &[u64]) -> 
         if sizes.len() <= i {
             return Acknowledged { acked, sums_in };
         }
-        acked = acked.update(remotes[i], data_size(sizes[i])).copied();
+        acked = acked.update(remotes[i], data_size(sizes[i]));
         let sum = acked.sum;
         sums_in = sums_in & questions::bytes_in(sum);
         i += 1;
@@ -150,7 +150,7 @@ pub fn judge_report(
     sends: &[u64],
     remotes: &[u64],
     receives: &[u64],
-    probe: OptionBitrate,
+    probe: Option<Bitrate>,
     moment: u64,
 ) -> Judged
     ensures { Calls.judged result ≡ Calls.judge_report acked (report-of sequences.now sizes.now sends.now remotes.now receives.now probe moment) }
@@ -210,7 +210,7 @@ fn report_in_order(
     sends: &[u64],
     remotes: &[u64],
     receives: &[u64],
-    probe: OptionBitrate,
+    probe: Option<Bitrate>,
     moment: u64,
 ) -> Called
     ensures { Calls.outcome result ≡ Calls.report_in_order link (report-of sequences.now sizes.now sends.now remotes.now receives.now probe moment) }
@@ -245,7 +245,7 @@ fn report_unsorted(
     sends: &[u64],
     remotes: &[u64],
     receives: &[u64],
-    probe: OptionBitrate,
+    probe: Option<Bitrate>,
     moment: u64,
 ) -> Called
     requires { in_range link ≡ true }
@@ -280,7 +280,7 @@ pub fn report(
     sends: &[u64],
     remotes: &[u64],
     receives: &[u64],
-    probe: OptionBitrate,
+    probe: Option<Bitrate>,
     moment: u64,
 ) -> Called
     ensures { Calls.outcome result ≡ Calls.report link (report-of sequences.now sizes.now sends.now remotes.now receives.now probe moment) }

@@ -4,7 +4,7 @@
 #![tactic(auto)]
 
 use acked_bitrate_estimator::AckedBitrateEstimator;
-use bandwidth::{BandwidthUsage, Bitrate, OptionBitrate};
+use bandwidth::{BandwidthUsage, Bitrate};
 use cases::{Case, Counts};
 use control::DelayController;
 use link::{Called, Opened, Opening};
@@ -12,7 +12,7 @@ use link_state::Link;
 use std::io;
 use std::num::wrapping_sub_usize;
 use time::TimeDelta;
-use trendline::{OptionOveruse, TrendlineEstimator};
+use trendline::{TrendlineEstimator};
 
 fn delta_tag(d: TimeDelta) -> u64 {
     match d {
@@ -37,18 +37,18 @@ fn trend_word(t: TrendlineEstimator) -> u64 {
     let overuse = t.overuse;
     let count = usage(t.hypothesis()) | (d.num_delay_variations << 8);
     match overuse {
-        OptionOveruse::None => count,
-        OptionOveruse::Some(o) => {
+        None => count,
+        Some(o) => {
             let time = o.time_overusing;
             count | (o.count << 32) | (delta_tag(time) << 40)
         }
     }
 }
 
-fn acked_bits(rate: OptionBitrate) -> u64 {
+fn acked_bits(rate: Option<Bitrate>) -> u64 {
     match rate {
-        OptionBitrate::None => 0,
-        OptionBitrate::Some(x) => float_bits::to_bits(x.as_f64()),
+        None => 0,
+        Some(x) => float_bits::to_bits(x.as_f64()),
     }
 }
 
@@ -68,11 +68,11 @@ fn shown(number: u64, link: Link) -> [u64; 6] {
     ]
 }
 
-fn probe(flag: u64, b: u64) -> OptionBitrate {
+fn probe(flag: u64, b: u64) -> Option<Bitrate> {
     if flag == 1 {
-        return OptionBitrate::Some(Bitrate(float_bits::from_bits(b)));
+        return Some(Bitrate(float_bits::from_bits(b)));
     }
-    OptionBitrate::None
+    None
 }
 
 // A list's length: one less for the list that is short.

@@ -1,9 +1,7 @@
 -- The proof of demand 3. A link is a machine that holds a rate control, and what a call does to that is what the statement says is handed on.
-use Rattle.std.specs.Prelude.{ℕ, ◌≡◌, refl, Bool, true, false, cond, List, [], ◌∷◌, ◌++◌}
-use Rattle.bandwidth.specs.declared.OptionBitrate.{OptionBitrate}
-use Rattle.bandwidth.specs.declared.OptionBitrate.TheVariants as Rate
+use Rattle.bandwidth.specs.declared.Bitrate.{Bitrate}
+use Rattle.std.specs.Prelude.{ℕ, ◌≡◌, refl, Bool, true, false, cond, List, [], ◌∷◌, ◌++◌, Option, Some, None}
 use Rattle.bandwidth.specs.declared.BandwidthUsage.{BandwidthUsage}
-use Rattle.time.specs.declared.OptionDuration.{OptionDuration}
 use Rattle.time.specs.Time.{saturating_add}
 use Rattle.bool_laws.specs.Bools.{cases}
 use Rattle.recovery.specs.Recovery.{Change, Finite, after}
@@ -29,21 +27,21 @@ abbrev machine : Machine Link Call
 machine = record { step = λ l k. (call l k).link; control = λ l. l.control.rate_control; threshold = threshold; change = handed }
 
 -- ---- the rate control goes by it
-rate-after : (probe acked : OptionBitrate) (c : DelayController) (now : ℕ)
+rate-after : (probe acked : Option Bitrate) (c : DelayController) (now : ℕ)
     → rate_after probe acked c now ≡ after c.rate_control (handed_on probe acked c.trendline_estimator.hypothesis (get_smoothed_rtt c) now)
-rate-after (Rate.Some p) acked c now = refl
-rate-after Rate.None Rate.None c now = refl
-rate-after Rate.None (Rate.Some b) c now = refl
+rate-after (Some p) acked c now = refl
+rate-after None None c now = refl
+rate-after None (Some b) c now = refl
 
-timeout-rate : (c : DelayController) (acked : OptionBitrate) (now : ℕ)
+timeout-rate : (c : DelayController) (acked : Option Bitrate) (now : ℕ)
     → (handle_timeout c acked now).rate_control
-    ≡ after c.rate_control (cond (trendline_hypothesis_valid c now) (handed_on Rate.None acked c.trendline_estimator.hypothesis (get_smoothed_rtt c) now) nothing)
+    ≡ after c.rate_control (cond (trendline_hypothesis_valid c now) (handed_on None acked c.trendline_estimator.hypothesis (get_smoothed_rtt c) now) nothing)
 unfolding handle_timeout update_estimate with_rate
 timeout-rate c acked now = go (trendline_hypothesis_valid c now)
   where
-    go : (t : Bool) → (cond t (update_estimate c acked Rate.None now) (with_rate c c.rate_control (saturating_add now (wait c)))).rate_control
-        ≡ after c.rate_control (cond t (handed_on Rate.None acked c.trendline_estimator.hypothesis (get_smoothed_rtt c) now) nothing)
-    go true = rate-after Rate.None acked c now
+    go : (t : Bool) → (cond t (update_estimate c acked None now) (with_rate c c.rate_control (saturating_add now (wait c)))).rate_control
+        ≡ after c.rate_control (cond t (handed_on None acked c.trendline_estimator.hypothesis (get_smoothed_rtt c) now) nothing)
+    go true = rate-after None acked c now
     go false = refl
 
 control-after : (l : Link) (k : Call) → (call l k).link.control.rate_control ≡ after l.control.rate_control (handed l k)
@@ -60,10 +58,10 @@ control-after l (timeout now) = go (timeout-answered l now)
     go (taken y) = timeout-rate l.control l.acked.estimate now
 
 -- ---- rates that are handed on are finite
-change-finite : (probe acked : OptionBitrate) (h : BandwidthUsage) (rtt : OptionDuration) (now : ℕ) → FiniteIfAny probe → ValidEstimate acked → Finite (handed_on probe acked h rtt now)
-change-finite (Rate.Some p) acked h rtt now f v = f
-change-finite Rate.None Rate.None h rtt now f v = tt
-change-finite Rate.None (Rate.Some b) h rtt now f v = rate-finite v
+change-finite : (probe acked : Option Bitrate) (h : BandwidthUsage) (rtt : Option ℕ) (now : ℕ) → FiniteIfAny probe → ValidEstimate acked → Finite (handed_on probe acked h rtt now)
+change-finite (Some p) acked h rtt now f v = f
+change-finite None None h rtt now f v = tt
+change-finite None (Some b) h rtt now f v = rate-finite v
 
 unless-finite : (r : Reply) (x : Change) → Finite x → Finite (unless_refused r x)
 unless-finite (refused n) x f = tt
@@ -79,7 +77,7 @@ good-finite l (report r) g = report-finite l r (report-answered l r) (call-good 
 good-finite l (timeout now) g =
     unless-finite (L.timeout l now).reply _
     (cases Finite (trendline_hypothesis_valid l.control now)
-    (λ e. change-finite Rate.None l.acked.estimate (hypothesis l) (get_smoothed_rtt l.control) now tt g.acked.reached.estimate) (λ e. tt))
+    (λ e. change-finite None l.acked.estimate (hypothesis l) (get_smoothed_rtt l.control) now tt g.acked.reached.estimate) (λ e. tt))
 
 keeps : Runs.Keeps machine Good
 keeps =

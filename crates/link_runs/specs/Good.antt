@@ -1,5 +1,5 @@
 -- What holds of every link that a run reaches. An accepted opening gives it, and every call keeps it.
-use Rattle.std.specs.Prelude.{ℕ, zero, suc, ◌+◌, ◌^◌, ◌≤◌, ◌%◌, ◌≡◌, true, ◌&&◌, List, [], ◌∷◌, T, leb, eqb, Float}
+use Rattle.std.specs.Prelude.{ℕ, zero, suc, ◌+◌, ◌^◌, ◌≤◌, ◌%◌, ◌≡◌, true, ◌&&◌, List, [], ◌∷◌, T, leb, eqb, Float, Option, Some, None}
 use Rattle.std.proofs.Common.{arith, leb-true, eqb-true}
 use Rattle.std.proofs.Math.Path.{refl}
 use Rattle.std.specs.Float.Ieee.{le}
@@ -12,12 +12,8 @@ use Rattle.seconds.specs.Seconds.{from_secs_f64}
 use Rattle.seconds.specs.Laws.{ns-mono}
 use Rattle.average.specs.Laws.{AverageIn}
 use Rattle.average.specs.Laws as Average
-use Rattle.average.specs.declared.OptionF64.{OptionF64}
-use Rattle.average.specs.declared.OptionF64.TheVariants as F64
 use Rattle.bandwidth.specs.Bandwidth.{min_estimate, max_estimate, most_rate}
 use Rattle.bandwidth.specs.declared.Bitrate.{Bitrate}
-use Rattle.bandwidth.specs.declared.OptionBitrate.{OptionBitrate}
-use Rattle.bandwidth.specs.declared.OptionBitrate.TheVariants as Rate
 use Rattle.time.specs.Time.{saturating_add}
 use Rattle.acked_bitrate_estimator.specs.Laws.{ValidEstimate, ValidRate, ValidWindow}
 use Rattle.acked_bitrate_estimator.specs.declared.AckedBitrateEstimator.{AckedBitrateEstimator}
@@ -59,20 +55,20 @@ pub record Good (l : Link) : Type 0 where
   pub report : InstantAtMost most_instant l.control.last_twcc_report
 
 -- ---- the rate control
-rtt-most : (a : OptionF64) → AverageIn most_round_trip a → DurationAtMost most_instant (rtt_of a)
-rtt-most F64.None h = tt
-rtt-most (F64.Some a) h =
+rtt-most : (a : Option Float) → AverageIn most_round_trip a → DurationAtMost most_instant (rtt_of a)
+rtt-most None h = tt
+rtt-most (Some a) h =
     let e : from_secs_f64 most_round_trip ≡ 10 ^ 18 = unfold from_secs_f64 floats in refl in
     omega (arith, ns-mono a most_round_trip h.0.high)
 
-abbrev pub FiniteIfAny : OptionBitrate → Type 0
-FiniteIfAny Rate.None = Unit {0}
-FiniteIfAny (Rate.Some p) = T (finite p.0)
+abbrev pub FiniteIfAny : Option Bitrate → Type 0
+FiniteIfAny None = Unit {0}
+FiniteIfAny (Some p) = T (finite p.0)
 
-probe-finite : (p : OptionBitrate) → probe_in p ≡ true → FiniteIfAny p
+probe-finite : (p : Option Bitrate) → probe_in p ≡ true → FiniteIfAny p
 unfolding probe_in
-probe-finite Rate.None e = tt
-probe-finite (Rate.Some p) e =
+probe-finite None e = tt
+probe-finite (Some p) e =
     let b = both (le (lit 0) p.0) (le p.0 most_rate.0) e in
     let i : In (lit 0) most_rate.0 p.0 = record { low = holds b.0; high = holds b.1 } in
     in-finite i (unfold floats in tt)
@@ -80,15 +76,15 @@ probe-finite (Rate.Some p) e =
 pub rate-finite : {x : Float} → ValidRate x → T (finite x)
 rate-finite v = in-finite v.range (unfold floats in tt)
 
-rate-good : (probe observed : OptionBitrate) (c : DelayController) (now : ℕ) → FiniteIfAny probe → ValidEstimate observed → now ≤ most_instant → KeptRtt c.smoothed_rtt
+rate-good : (probe observed : Option Bitrate) (c : DelayController) (now : ℕ) → FiniteIfAny probe → ValidEstimate observed → now ≤ most_instant → KeptRtt c.smoothed_rtt
     → GoodRate c.rate_control → GoodRate (rate_after probe observed c now)
-rate-good (Rate.Some p) observed c now f v n k g =
+rate-good (Some p) observed c now f v n k g =
     record {
       sound = Rates.set_probe_result-sound c.rate_control p now (finite-ordered p.0 f) g.sound;
       kept = Rates.set_probe_result-kept c.rate_control most_instant most_instant g.kept p now n;
     }
-rate-good Rate.None Rate.None c now f v n k g = g
-rate-good Rate.None (Rate.Some b) c now f v n k g =
+rate-good None None c now f v n k g = g
+rate-good None (Some b) c now f v n k g =
     let s = RateControl.signal c.trendline_estimator.hypothesis in
     record {
       sound = update-sound c.rate_control s b (get_smoothed_rtt c) now (rate-finite v) g.sound;
@@ -142,11 +138,11 @@ good-report l r y =
     }
 
 -- ---- a timeout
-timeout-rate-good : (c : DelayController) (observed : OptionBitrate) (now : ℕ) → ValidEstimate observed → now ≤ most_instant → KeptRtt c.smoothed_rtt → GoodRate c.rate_control
+timeout-rate-good : (c : DelayController) (observed : Option Bitrate) (now : ℕ) → ValidEstimate observed → now ≤ most_instant → KeptRtt c.smoothed_rtt → GoodRate c.rate_control
     → GoodRate (handle_timeout c observed now).rate_control
 unfolding handle_timeout update_estimate with_rate
 timeout-rate-good c observed now v n k g =
-    cases (λ (d : DelayController). GoodRate d.rate_control) (trendline_hypothesis_valid c now) (λ e. rate-good Rate.None observed c now tt v n k g) (λ e. g)
+    cases (λ (d : DelayController). GoodRate d.rate_control) (trendline_hypothesis_valid c now) (λ e. rate-good None observed c now tt v n k g) (λ e. g)
 
 timed-out-good : (l : Link) (now : ℕ) → now ≤ most_instant → Good l → Good (timed_out l now)
 unfolding timed_out saturating_add

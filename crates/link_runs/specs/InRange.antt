@@ -1,5 +1,8 @@
 -- Every link that a run reaches passes question 1.
-use Rattle.std.specs.Prelude.{ℕ, zero, suc, ◌+◌, ◌*◌, ◌%◌, ◌^◌, ◌≤◌, ◌<◌, ◌≡◌, refl, true, List, [], ◌∷◌, T, pos, get_or, take, Float}
+use Rattle.std.specs.Option.{unwrap_or}
+use Rattle.trendline.specs.declared.Overuse.{Overuse}
+use Rattle.arrival_group.specs.declared.ArrivalGroup.{ArrivalGroup}
+use Rattle.std.specs.Prelude.{ℕ, zero, suc, ◌+◌, ◌*◌, ◌%◌, ◌^◌, ◌≤◌, ◌<◌, ◌≡◌, refl, true, List, [], ◌∷◌, T, pos, get_or, take, Float, Option, Some, None}
 use Rattle.std.proofs.Common.{arith, lit≤}
 use Rattle.std.proofs.Math.Bool.{false}
 use borrow.Author.Tests.{le-leb, le-ltb, lt-ltb, eq-eqb}
@@ -17,18 +20,10 @@ use Rattle.float_order.proofs.Gaps.{gap-large}
 use Rattle.bool_laws.specs.Bools.{is_true}
 use Rattle.average.specs.Laws.{AverageIn, std-in}
 use Rattle.average.specs.Laws as Averages
-use Rattle.average.specs.declared.OptionF64.{OptionF64}
-use Rattle.average.specs.declared.OptionF64.TheVariants as F64
 use Rattle.average.specs.declared.MovingAverage.{MovingAverage}
 use Rattle.bandwidth.specs.Bandwidth as B
 use Rattle.bandwidth.specs.declared.Bitrate.{Bitrate}
-use Rattle.bandwidth.specs.declared.OptionBitrate.{OptionBitrate}
-use Rattle.bandwidth.specs.declared.OptionBitrate.TheVariants as Rate
-use Rattle.time.specs.Time.{instant_or}
-use Rattle.time.specs.declared.OptionInstant.{OptionInstant}
-use Rattle.time.specs.declared.OptionInstant.TheVariants as Instant
-use Rattle.time.specs.declared.OptionDuration.{OptionDuration}
-use Rattle.time.specs.declared.OptionDuration.TheVariants as Duration
+use Rattle.time.specs.Time.{}
 use Rattle.acked_bitrate_estimator.specs.Laws.{ValidEstimate, ValidVariance, ValidWindow}
 use Rattle.acked_bitrate_estimator.specs.declared.AckedBitrateEstimator.{AckedBitrateEstimator}
 use Rattle.time.specs.declared.TimeDelta.{TimeDelta}
@@ -36,14 +31,10 @@ use Rattle.time.specs.declared.TimeDelta.TheVariants.{NegativeInfinity, Negative
 use Rattle.arrival_group.specs.Laws as Groups
 use Rattle.arrival_group.specs.Laws.{BoundedIfAny}
 use Rattle.arrival_group.specs.declared.ArrivalGroupAccumulator.{ArrivalGroupAccumulator}
-use Rattle.arrival_group.specs.declared.OptionGroup.{OptionGroup}
-use Rattle.arrival_group.specs.declared.OptionGroup.TheVariants as G
 use Rattle.trendline.specs.History.{Ascending, First}
 use Rattle.trendline.specs.Laws.{SoundDelays, SoundHistory, SoundOveruse}
 use Rattle.trendline.specs.declared.Delays.{Delays}
 use Rattle.trendline.specs.declared.History.{History}
-use Rattle.trendline.specs.declared.OptionOveruse.{OptionOveruse}
-use Rattle.trendline.specs.declared.OptionOveruse.TheVariants as Over
 use Rattle.trendline.specs.declared.TrendlineEstimator.{TrendlineEstimator}
 use Rattle.rate_control.specs.RateControl.{observed_bit_rate_smoothing_factor}
 use Rattle.rate_control.specs.Laws.{InstantAtMost, DurationAtMost}
@@ -103,13 +94,13 @@ eq_refl (inf false) o = refl
 eq_refl (fin true m e) o = rw (eq-eqb (m * up e * down e) (m * up e * down e) refl)
 eq_refl (fin false m e) o = rw (eq-eqb (m * up e * down e) (m * up e * down e) refl)
 
-instant-in : (o : OptionInstant) → InstantAtMost most_instant o → instant_in o ≡ true
-instant-in Instant.None h = refl
-instant-in (Instant.Some t) h = le-leb t (10 ^ 18 + 10 ^ 9) (omega arith)
+instant-in : (o : Option ℕ) → InstantAtMost most_instant o → instant_in o ≡ true
+instant-in None h = refl
+instant-in (Some t) h = le-leb t (10 ^ 18 + 10 ^ 9) (omega arith)
 
-duration-in : (o : OptionDuration) → DurationAtMost most_instant o → duration_in o ≡ true
-duration-in Duration.None h = refl
-duration-in (Duration.Some d) h = le-leb d (10 ^ 18 + 10 ^ 9) (omega arith)
+duration-in : (o : Option ℕ) → DurationAtMost most_instant o → duration_in o ≡ true
+duration-in None h = refl
+duration-in (Some d) h = le-leb d (10 ^ 18 + 10 ^ 9) (omega arith)
 
 window-in : (w : ℕ) → ValidWindow w → window_in w ≡ true
 unfolding window_in
@@ -124,9 +115,9 @@ average-in m factor L o k =
     v : In (lit 0) most30 m.variance
     v = in-wider k.variance-in (unfold floats in tt)
 
-    go : (a : OptionF64) → AverageIn L a → average_within L a ≡ true
-    go F64.None h = refl
-    go (F64.Some a) h = within-is (lower h.0)
+    go : (a : Option Float) → AverageIn L a → average_within L a ≡ true
+    go None h = refl
+    go (Some a) h = within-is (lower h.0)
 
 -- ---- the acknowledged rate
 -- a float that is at most 10 ^ 30 is at most the greatest such float
@@ -140,9 +131,9 @@ variance-in x h =
       high = le_trans x (fin false 0x19_3e59_39a0_8ce9 (pos 47)) most30 (gap-large x 0x19_3e59_39a0_8ce9 47 p h.held h.range.low (lit≤ tt) q) (unfold floats in tt);
     }
 
-acked-rate-in : (o : OptionBitrate) → ValidEstimate o → acked_rate_in o ≡ true
-acked-rate-in Rate.None h = refl
-acked-rate-in (Rate.Some r) h = within-is (in-wider h.range (unfold floats in tt))
+acked-rate-in : (o : Option Bitrate) → ValidEstimate o → acked_rate_in o ≡ true
+acked-rate-in None h = refl
+acked-rate-in (Some r) h = within-is (in-wider h.range (unfold floats in tt))
 
 sum-in : (n elapsed : ℕ) → n ≤ 2147483647 → (n ≡ 0 → elapsed ≡ 0) → sum_in (B.bytes (pos n)) elapsed ≡ true
 unfolding sum_in
@@ -158,14 +149,14 @@ acked-in a g =
     rw (window-in a.initial_window r.initial, window-in a.window r.later, acked-rate-in a.estimate r.estimate, within-is (variance-in a.estimate_var r.variance), s, le-leb a.current_window 10000000000 (omega (arith, w.elapsed)), instant-in a.last_update g.last)
 
 -- ---- groups
-group-in : (g : OptionGroup) → BoundedIfAny most_instant most_instant g → group_in g ≡ true
-group-in G.None h = refl
-group-in (G.Some g) h =
+group-in : (g : Option ArrivalGroup) → BoundedIfAny most_instant most_instant g → group_in g ≡ true
+group-in None h = refl
+group-in (Some g) h =
     rw (le-leb g.first_local_send_time most_ns (omega (arith, h.first-send)), le-leb g.first_remote_recv_time most_ns (omega (arith, h.first-remote)), le-leb g.last_local_send_time most_ns (omega (arith, h.last-send)), le-leb g.last_remote_recv_time most_ns (omega (arith, h.last-remote)))
 
-origin-in : (t : OptionInstant) → instant_or t 0 ≤ most_instant → instant_in t ≡ true
-origin-in Instant.None h = refl
-origin-in (Instant.Some t) h = instant-in (Instant.Some t) h
+origin-in : (t : Option ℕ) → unwrap_or t 0 ≤ most_instant → instant_in t ≡ true
+origin-in None h = refl
+origin-in (Some t) h = instant-in (Some t) h
 
 groups-in : (a : ArrivalGroupAccumulator) → Groups.Sound most_instant most_instant a → groups_in a ≡ true
 unfolding groups_in
@@ -207,13 +198,13 @@ time-in s (Negative n) h a = le-leb n most_overuse (omega (arith, a.since, a.mos
 time-in s (Positive n) h a = le-leb n most_overuse (omega (arith, a.since))
 time-in s PositiveInfinity h a = absurd a.since
 
-overuse-in : (p : OptionGroup) (len : ℕ) (o : OptionOveruse) → BoundedIfAny most_instant most_instant p → SoundOveruse o → GoodOveruse p len o → overuse_in o ≡ true
+overuse-in : (p : Option ArrivalGroup) (len : ℕ) (o : Option Overuse) → BoundedIfAny most_instant most_instant p → SoundOveruse o → GoodOveruse p len o → overuse_in o ≡ true
 unfolding overuse_in
-overuse-in p len Over.None h s g = refl
-overuse-in G.None len (Over.Some o) h s g = absurd g
-overuse-in (G.Some p) len (Over.Some o) h s g = rw (le-leb o.count 2 s, time-in p.last_local_send_time o.time_overusing h.last-send g.1)
+overuse-in p len None h s g = refl
+overuse-in None len (Some o) h s g = absurd g
+overuse-in (Some p) len (Some o) h s g = rw (le-leb o.count 2 s, time-in p.last_local_send_time o.time_overusing h.last-send g.1)
 
-trendline-in : (p : OptionGroup) (t : TrendlineEstimator) → BoundedIfAny most_instant most_instant p → GoodTrendline p t → trendline_in t ≡ true
+trendline-in : (p : Option ArrivalGroup) (t : TrendlineEstimator) → BoundedIfAny most_instant most_instant p → GoodTrendline p t → trendline_in t ≡ true
 unfolding trendline_in
 trendline-in p t h g =
     let s = g.sound in

@@ -1,5 +1,7 @@
 -- Groups and trendline of a reached link, and that a report's packets keep them so.
-use Rattle.std.specs.Prelude.{ℕ, ◌+◌, ◌-◌, ◌*◌, ◌^◌, ◌≤◌, ◌<◌, min, ◌≡◌, refl, ◌&&◌, List, ltb, eqb, length, Float}
+use Rattle.std.specs.Option.{unwrap_or}
+use Rattle.trendline.specs.declared.Overuse.{Overuse}
+use Rattle.std.specs.Prelude.{ℕ, ◌+◌, ◌-◌, ◌*◌, ◌^◌, ◌≤◌, ◌<◌, min, ◌≡◌, refl, ◌&&◌, List, ltb, eqb, length, Float, Option, Some, None}
 use Rattle.std.proofs.Common.{add-one, arith}
 use borrow.Author.Tests.{le-ltb, ltb-true, eqb-true, eqb-false}
 use Rattle.std.specs.Float.Ieee as Ieee
@@ -9,7 +11,7 @@ use Rattle.float_order.specs.Binary64.{sub, mul, one}
 use Rattle.float_order.specs.Range.{Within, nat, in-closed, lit-in, add-in, mul_in, absorb}
 use Rattle.float_order.specs.Interval.{floats}
 use Rattle.time.specs.Time as Time
-use Rattle.time.specs.Time.{difference, instant_or}
+use Rattle.time.specs.Time.{difference}
 use Rattle.time.specs.declared.TimeDelta.{TimeDelta}
 use Rattle.bandwidth.specs.declared.BandwidthUsage.{BandwidthUsage}
 use Rattle.arrival_group.specs.ArrivalGroup as Group
@@ -19,8 +21,6 @@ use Rattle.arrival_group.specs.Laws.{Bounded, BoundedIfAny, Measured, accumulate
 use Rattle.arrival_group.specs.declared.ArrivalGroup.{ArrivalGroup}
 use Rattle.arrival_group.specs.declared.Accumulated.{Accumulated}
 use Rattle.arrival_group.specs.declared.InterGroupDelayDelta.{InterGroupDelayDelta}
-use Rattle.arrival_group.specs.declared.OptionGroup.{OptionGroup}
-use Rattle.arrival_group.specs.declared.OptionGroup.TheVariants as G
 use Rattle.bool_laws.specs.Bools.{cases}
 use Rattle.trendline.specs.Trendline.{smoothing_coef, over_use_time_threshold, accumulate, add, add_to_history, add_delay_observation, detect, judge, linear_fit, modified_trend, new, next_overuse, overusing, place, with_trend}
 use Rattle.trendline.specs.History.{First, place-le, insert-each, insert-full-each}
@@ -30,8 +30,6 @@ use Rattle.trendline.specs.Milliseconds.{delta-in}
 use Rattle.trendline.specs.declared.Delays.{Delays}
 use Rattle.trendline.specs.declared.History.{History}
 use Rattle.trendline.specs.declared.Judgement.{Judgement}
-use Rattle.trendline.specs.declared.OptionOveruse.{OptionOveruse}
-use Rattle.trendline.specs.declared.OptionOveruse.TheVariants as Over
 use Rattle.trendline.specs.declared.TrendlineEstimator.{TrendlineEstimator}
 use Rattle.control.specs.Control.{add_packet, add_packets, observe}
 use Rattle.control.specs.Laws.{Instants, fold-keeps}
@@ -42,13 +40,13 @@ use Rattle.link_runs.specs.Overuse.{Anchored, begins, lasts}
 
 -- ---- the claims
 -- there is an overuse only after a group, and with a full history
-abbrev pub GoodOveruse : OptionGroup → ℕ → OptionOveruse → Type 0
-GoodOveruse p len Over.None = Unit {0}
-GoodOveruse G.None len (Over.Some o) = ⊥
-GoodOveruse (G.Some g) len (Over.Some o) = (len ≡ 20) × Anchored g.last_local_send_time o.time_overusing
+abbrev pub GoodOveruse : Option ArrivalGroup → ℕ → Option Overuse → Type 0
+GoodOveruse p len None = Unit {0}
+GoodOveruse None len (Some o) = ⊥
+GoodOveruse (Some g) len (Some o) = (len ≡ 20) × Anchored g.last_local_send_time o.time_overusing
 
 -- of the previous group and the trendline; 10 ^ 9 s, and delays to the greatest float that is not above 10 ^ 31
-pub record GoodTrendline (p : OptionGroup) (t : TrendlineEstimator) : Type 0 where
+pub record GoodTrendline (p : Option ArrivalGroup) (t : TrendlineEstimator) : Type 0 where
   pub sound : Trendline.Sound (10 ^ 9) t
   pub counted : t.history.len ≤ t.delays.num_delay_variations
   pub smoothed : Within most31 t.delays.smoothed_delay
@@ -93,11 +91,11 @@ smoothed-in {d} {delta} h k =
     add-in kept part (unfold floats in tt)
 
 -- with a full history an overuse ends, begins or lasts
-data Judged (old : OptionOveruse) (sent : TimeDelta) : OptionOveruse → Type 0 where
-  cleared : Judged old sent Over.None
-  counted : Judged old sent (Over.Some (next_overuse old sent))
+data Judged (old : Option Overuse) (sent : TimeDelta) : Option Overuse → Type 0 where
+  cleared : Judged old sent None
+  counted : Judged old sent (Some (next_overuse old sent))
 
-judge-judged : (d : Delays) (old : OptionOveruse) (hypothesis : BandwidthUsage) (trend : Float) (sent : TimeDelta) → Judged old sent (judge d old hypothesis trend sent).overuse
+judge-judged : (d : Delays) (old : Option Overuse) (hypothesis : BandwidthUsage) (trend : Float) (sent : TimeDelta) → Judged old sent (judge d old hypothesis trend sent).overuse
 unfolding judge overusing
 judge-judged d old hypothesis trend sent =
     let modified = modified_trend d trend in
@@ -121,28 +119,28 @@ detect-detected t trend sent now h =
     (record { history = refl; count = refl; smoothed = refl; overuse = judge-judged t.delays t.overuse t.hypothesis trend sent })
 
 module _ (g g' : ArrivalGroup) (h : Bounded most_instant most_instant g) (k : Bounded most_instant most_instant g') where
-  judged-good : (old new : OptionOveruse) (sent : TimeDelta) (len : ℕ) → sent ≡ difference g'.last_local_send_time g.last_local_send_time → GoodOveruse (G.Some g) len old → Judged old sent new
-      → GoodOveruse (G.Some g') 20 new
+  judged-good : (old new : Option Overuse) (sent : TimeDelta) (len : ℕ) → sent ≡ difference g'.last_local_send_time g.last_local_send_time → GoodOveruse (Some g) len old → Judged old sent new
+      → GoodOveruse (Some g') 20 new
   unfolding next_overuse
-  judged-good Over.None new sent len e o j = by sent new e j
+  judged-good None new sent len e o j = by sent new e j
     where
-      by : (time : TimeDelta) (next : OptionOveruse) → time ≡ difference g'.last_local_send_time g.last_local_send_time → Judged Over.None time next → GoodOveruse (G.Some g') 20 next
+      by : (time : TimeDelta) (next : Option Overuse) → time ≡ difference g'.last_local_send_time g.last_local_send_time → Judged None time next → GoodOveruse (Some g') 20 next
       by time next i cleared = tt
       by time next i counted = (refl, rw i (begins g.last_local_send_time g'.last_local_send_time h.last-send k.last-send))
-  judged-good (Over.Some u) new sent len e o j = by sent new e j
+  judged-good (Some u) new sent len e o j = by sent new e j
     where
-      by : (time : TimeDelta) (next : OptionOveruse) → time ≡ difference g'.last_local_send_time g.last_local_send_time → Judged (Over.Some u) time next → GoodOveruse (G.Some g') 20 next
+      by : (time : TimeDelta) (next : Option Overuse) → time ≡ difference g'.last_local_send_time g.last_local_send_time → Judged (Some u) time next → GoodOveruse (Some g') 20 next
       by time next i cleared = tt
       by time next i counted = (refl, rw i (lasts g.last_local_send_time g'.last_local_send_time h.last-send k.last-send u.time_overusing o.1))
 
 -- without a full history there was none
-none-good : (p q : OptionGroup) (o : OptionOveruse) (len len' : ℕ) → (len ≡ 20 → ⊥) → GoodOveruse p len o → GoodOveruse q len' o
-none-good p q Over.None len len' n h = tt
-none-good G.None q (Over.Some o) len len' n h = absurd h
-none-good (G.Some g) q (Over.Some o) len len' n h = absurd (n h.0)
+none-good : (p q : Option ArrivalGroup) (o : Option Overuse) (len len' : ℕ) → (len ≡ 20 → ⊥) → GoodOveruse p len o → GoodOveruse q len' o
+none-good p q None len len' n h = tt
+none-good None q (Some o) len len' n h = absurd h
+none-good (Some g) q (Some o) len len' n h = absurd (n h.0)
 
 -- two groups, and what they measured
-module _ (g g' : ArrivalGroup) (h : Bounded most_instant most_instant g) (k : Bounded most_instant most_instant g') (t : TrendlineEstimator) (r : GoodTrendline (G.Some g) t) where
+module _ (g g' : ArrivalGroup) (h : Bounded most_instant most_instant g) (k : Bounded most_instant most_instant g') (t : TrendlineEstimator) (r : GoodTrendline (Some g) t) where
   abbrev v : InterGroupDelayDelta
   v = delta_between g g'
 
@@ -168,7 +166,7 @@ module _ (g g' : ArrivalGroup) (h : Bounded most_instant most_instant g) (k : Bo
   unfolding add_to_history
   added-delays = add-delays (Within most31) t.history _ _ r.sound.history r.delays added-smoothed
 
-  full-good : (u : TrendlineEstimator) → added.history.len ≡ 20 → Detected added v.send_delta u → Trendline.Sound (10 ^ 9) u → GoodTrendline (G.Some g') u
+  full-good : (u : TrendlineEstimator) → added.history.len ≡ 20 → Detected added v.send_delta u → Trendline.Sound (10 ^ 9) u → GoodTrendline (Some g') u
   unfolding add_to_history
   full-good u f d s =
       record {
@@ -179,7 +177,7 @@ module _ (g g' : ArrivalGroup) (h : Bounded most_instant most_instant g) (k : Bo
         overuse = rw (d.history, f) (judged-good g g' h k t.overuse u.overuse v.send_delta t.history.len m.send r.overuse d.overuse);
       }
 
-  few-good : (added.history.len ≡ 20 → ⊥) → Trendline.Sound (10 ^ 9) added → GoodTrendline (G.Some g') added
+  few-good : (added.history.len ≡ 20 → ⊥) → Trendline.Sound (10 ^ 9) added → GoodTrendline (Some g') added
   unfolding add_to_history
   few-good f s =
       record {
@@ -187,13 +185,13 @@ module _ (g g' : ArrivalGroup) (h : Bounded most_instant most_instant g) (k : Bo
         counted = added-counted;
         smoothed = added-smoothed;
         delays = added-delays;
-        overuse = none-good (G.Some g) (G.Some g') t.overuse t.history.len added.history.len (λ e. f (added_full e)) r.overuse;
+        overuse = none-good (Some g) (Some g') t.overuse t.history.len added.history.len (λ e. f (added_full e)) r.overuse;
       }
 
-  observation-good : (now : ℕ) → now ≤ most_instant → GoodTrendline (G.Some g') (add_delay_observation t v now)
+  observation-good : (now : ℕ) → now ≤ most_instant → GoodTrendline (Some g') (add_delay_observation t v now)
   unfolding add_delay_observation
   observation-good now l =
-      cases (λ (u : TrendlineEstimator). Trendline.Sound (10 ^ 9) u → GoodTrendline (G.Some g') u) (eqb added.history.len 20)
+      cases (λ (u : TrendlineEstimator). Trendline.Sound (10 ^ 9) u → GoodTrendline (Some g') u) (eqb added.history.len 20)
       (λ e.
       let f = eqb-true added.history.len 20 e in
       full-good _ f (detect-detected added (linear_fit added.history.times added.history.delays added.delays.previous_trend) v.send_delta now (omega (arith, added-counted))))
@@ -201,26 +199,26 @@ module _ (g g' : ArrivalGroup) (h : Bounded most_instant most_instant g) (k : Bo
       (observation-sound {s = 10 ^ 9} (omega arith) {now = now} r.sound (record { send = m.send-bound; arrival = m.arrival-bound; last = m.last-bound }) l)
 
 -- ---- a packet
-closed-good : (p : OptionGroup) (g : ArrivalGroup) (t : TrendlineEstimator) → BoundedIfAny most_instant most_instant p → Bounded most_instant most_instant g → GoodTrendline p t
-    → GoodTrendline (G.Some g) (observe (delta p g) t)
+closed-good : (p : Option ArrivalGroup) (g : ArrivalGroup) (t : TrendlineEstimator) → BoundedIfAny most_instant most_instant p → Bounded most_instant most_instant g → GoodTrendline p t
+    → GoodTrendline (Some g) (observe (delta p g) t)
 unfolding delta
-closed-good G.None g t h k r =
+closed-good None g t h k r =
     record { sound = r.sound; counted = r.counted; smoothed = r.smoothed; delays = r.delays; overuse = none t.overuse r.overuse }
   where
-    none : (o : OptionOveruse) → GoodOveruse G.None t.history.len o → GoodOveruse (G.Some g) t.history.len o
-    none Over.None n = tt
-    none (Over.Some u) n = absurd n
-closed-good (G.Some p) g t h k r = observation-good p g h k t r _ k.last-remote
+    none : (o : Option Overuse) → GoodOveruse None t.history.len o → GoodOveruse (Some g) t.history.len o
+    none None n = tt
+    none (Some u) n = absurd n
+closed-good (Some p) g t h k r = observation-good p g h k t r _ k.last-remote
 
 abbrev GoodAfter : TrendlineEstimator → Accumulated → Type 0
 GoodAfter t x = GoodTrendline x.accumulator.previous_group (observe x.delta t)
 
 -- it closes the current group, or leaves the previous one
-rounded-good : (current previous : OptionGroup) (t : TrendlineEstimator) (origin send remote : ℕ) → BoundedIfAny most_instant most_instant current → BoundedIfAny most_instant most_instant previous
+rounded-good : (current previous : Option ArrivalGroup) (t : TrendlineEstimator) (origin send remote : ℕ) → BoundedIfAny most_instant most_instant current → BoundedIfAny most_instant most_instant previous
     → GoodTrendline previous t → GoodAfter t (accumulate_rounded current previous origin send remote)
 unfolding accumulate_rounded
-rounded-good G.None previous t origin send remote h k g = g
-rounded-good (G.Some c) previous t origin send remote h k g =
+rounded-good None previous t origin send remote h k g = g
+rounded-good (Some c) previous t origin send remote h k g =
     cases (GoodAfter t) (Group.add_packet c send remote).need_new_group (λ e. closed-good previous c t k h g) (λ e. g)
 
 packet-good : (d : DelayDetector) (send remote : ℕ) → GoodPackets d → send ≤ most_instant → remote ≤ most_instant → GoodPackets (add_packet d send remote)
@@ -228,7 +226,7 @@ unfolding accumulate_packet
 packet-good d send remote g h k =
     let a = d.arrival_group_accumulator in
     let t = d.trendline_estimator in
-    let origin = instant_or a.send_time_origin send in
+    let origin = unwrap_or a.send_time_origin send in
     record {
       groups = accumulate-sound a (omega arith) h k g.groups;
       trendline =

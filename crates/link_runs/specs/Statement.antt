@@ -1,14 +1,11 @@
 -- Demand 3: a link's estimate cannot be jammed. The statement, in document 01's terms ("Runs of a link"); its proof is proofs/Demand3.antt.
-use Rattle.std.specs.Prelude.{◌≡◌, cond, List, [], ◌∷◌, ◌++◌, ℕ, ◌*◌, ◌^◌, ◌<◌, T, Float}
+use Rattle.std.specs.Prelude.{◌≡◌, cond, List, [], ◌∷◌, ◌++◌, ℕ, ◌*◌, ◌^◌, ◌<◌, T, Float, Option, Some, None}
 use Rattle.std.specs.Float.Ieee.{le}
 use Rattle.std.specs.Float.Ieee.Scale.{finite}
 use Rattle.float_order.specs.Ops.{zero₊}
 use Rattle.float_order.specs.Range.{In, nat}
 use Rattle.bandwidth.specs.declared.Bitrate.{Bitrate}
-use Rattle.bandwidth.specs.declared.OptionBitrate.{OptionBitrate}
-use Rattle.bandwidth.specs.declared.OptionBitrate.TheVariants as Rate
 use Rattle.bandwidth.specs.declared.BandwidthUsage.{BandwidthUsage}
-use Rattle.time.specs.declared.OptionDuration.{OptionDuration}
 use Rattle.recovery.specs.Recovery.{Change, Each, Reached, Steady, updates}
 use Rattle.recovery.specs.Recovery.Change.{update, probe, nothing}
 use Rattle.control.specs.Control.{get_smoothed_rtt, trendline_hypothesis_valid}
@@ -37,10 +34,10 @@ threshold l = l.control.trendline_estimator.delays.delay_threshold
 
 -- ---- what a call hands to the rate control
 -- an accepted probe; or a rate update, whose observed rate is the acknowledged rate that it hands on, with the hypothesis handed along; or nothing
-abbrev pub handed_on : OptionBitrate → OptionBitrate → BandwidthUsage → OptionDuration → ℕ → Change
-handed_on (Rate.Some p) acked h rtt now = probe p now
-handed_on Rate.None Rate.None h rtt now = nothing
-handed_on Rate.None (Rate.Some b) h rtt now = update (record { hypothesis = h; observed = b; rtt = rtt; moment = now })
+abbrev pub handed_on : Option Bitrate → Option Bitrate → BandwidthUsage → Option ℕ → ℕ → Change
+handed_on (Some p) acked h rtt now = probe p now
+handed_on None None h rtt now = nothing
+handed_on None (Some b) h rtt now = update (record { hypothesis = h; observed = b; rtt = rtt; moment = now })
 
 abbrev pub unless_refused : Reply → Change → Change
 unless_refused (refused n) x = nothing
@@ -54,7 +51,7 @@ report_hands after r =
 abbrev pub timeout_hands : Outcome → Link → ℕ → Change
 timeout_hands after l now =
     unless_refused after.reply
-    (cond (trendline_hypothesis_valid l.control now) (handed_on Rate.None l.acked.estimate (hypothesis l) (get_smoothed_rtt l.control) now) nothing)
+    (cond (trendline_hypothesis_valid l.control now) (handed_on None l.acked.estimate (hypothesis l) (get_smoothed_rtt l.control) now) nothing)
 
 abbrev pub handed : Link → Call → Change
 handed l (report r) = report_hands (L.report l r) r

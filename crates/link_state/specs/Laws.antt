@@ -1,5 +1,6 @@
 -- What a passed question 1 tells of a link, over numbers. `Sized` is known of every value of the code.
-use Rattle.std.specs.Prelude.{◌≡◌, refl, true, false, not, List, [], ◌∷◌, ℕ, zero, suc, ◌+◌, ◌*◌, ◌^◌, ◌≤◌, ◌<◌, ℤ, pos, negsuc, T, length, take, get_or, Float}
+use Rattle.trendline.specs.declared.Overuse.{Overuse}
+use Rattle.std.specs.Prelude.{◌≡◌, refl, true, false, not, List, [], ◌∷◌, ℕ, zero, suc, ◌+◌, ◌*◌, ◌^◌, ◌≤◌, ◌<◌, ℤ, pos, negsuc, T, length, take, get_or, Float, Option, Some, None}
 use Rattle.std.proofs.Common.{ap, inl, inr, leb-true, ltb-false, eqb-true, T_not}
 use native.Mathlib.Omega.{arith}
 use Rattle.std.proofs.lemmas.Bool.{not-true}
@@ -14,33 +15,21 @@ use Rattle.float_order.specs.Interval.{floats}
 use Rattle.float_order.specs.Same.{is_zero, eq→same}
 use Rattle.bool_laws.specs.Bools.{left, right}
 use Rattle.sqrt.specs.Sqrt.{sqrt}
-use Rattle.average.specs.declared.OptionF64.{OptionF64}
-use Rattle.average.specs.declared.OptionF64.TheVariants as F64
 use Rattle.average.specs.declared.MovingAverage.{MovingAverage}
 use Rattle.bandwidth.specs.Bandwidth as B
 use Rattle.bandwidth.specs.declared.Bitrate.{Bitrate}
 use Rattle.bandwidth.specs.declared.DataSize.{DataSize}
-use Rattle.bandwidth.specs.declared.OptionBitrate.{OptionBitrate}
-use Rattle.bandwidth.specs.declared.OptionBitrate.TheVariants as Rate
-use Rattle.time.specs.declared.OptionInstant.{OptionInstant}
-use Rattle.time.specs.declared.OptionInstant.TheVariants as Instant
-use Rattle.time.specs.declared.OptionDuration.{OptionDuration}
-use Rattle.time.specs.declared.OptionDuration.TheVariants as Duration
 use Rattle.time.specs.declared.TimeDelta.{TimeDelta}
 use Rattle.time.specs.declared.TimeDelta.TheVariants as Delta
 use Rattle.acked_bitrate_estimator.specs.Laws.{ValidSum, ValidWindow}
 use Rattle.acked_bitrate_estimator.specs.declared.AckedBitrateEstimator.{AckedBitrateEstimator}
 use Rattle.arrival_group.specs.Laws.{AtMost}
 use Rattle.arrival_group.specs.declared.ArrivalGroup.{ArrivalGroup}
-use Rattle.arrival_group.specs.declared.OptionGroup.{OptionGroup}
-use Rattle.arrival_group.specs.declared.OptionGroup.TheVariants as G
 use Rattle.arrival_group.specs.declared.ArrivalGroupAccumulator.{ArrivalGroupAccumulator}
 use Rattle.trendline.specs.History as Timings
 use Rattle.trendline.specs.Laws.{SoundDelays, SoundHistory, SoundOveruse, Sound}
 use Rattle.trendline.specs.declared.History.{History}
 use Rattle.trendline.specs.declared.Delays.{Delays}
-use Rattle.trendline.specs.declared.OptionOveruse.{OptionOveruse}
-use Rattle.trendline.specs.declared.OptionOveruse.TheVariants as Over
 use Rattle.trendline.specs.declared.TrendlineEstimator.{TrendlineEstimator}
 use Rattle.rate_control.specs.RateControl.{observed_bit_rate_smoothing_factor}
 use Rattle.rate_control.specs.Laws as RateControl
@@ -87,13 +76,13 @@ pub record Sized (h : History) : Type 0 where
   pub times : length h.times ≡ 20
   pub delays : length h.delays ≡ 20
 
-abbrev pub FloatIn : Float → Float → OptionF64 → Type 0
-FloatIn low high F64.None = Unit {0}
-FloatIn low high (F64.Some x) = In low high x
+abbrev pub FloatIn : Float → Float → Option Float → Type 0
+FloatIn low high None = Unit {0}
+FloatIn low high (Some x) = In low high x
 
-abbrev pub RateIn : Float → Float → OptionBitrate → Type 0
-RateIn low high Rate.None = Unit {0}
-RateIn low high (Rate.Some r) = In low high r.0
+abbrev pub RateIn : Float → Float → Option Bitrate → Type 0
+RateIn low high None = Unit {0}
+RateIn low high (Some r) = In low high r.0
 
 -- the factor and the deviation are equal as floats: a zero may have either sign
 pub record AverageInRange (factor most : Float) (m : MovingAverage) : Type 0 where
@@ -119,18 +108,18 @@ pub record GroupInRange (g : ArrivalGroup) : Type 0 where
   pub last-send : g.last_local_send_time ≤ most_ns
   pub last-remote : g.last_remote_recv_time ≤ most_ns
 
-abbrev pub InRangeIfAny : OptionGroup → Type 0
-InRangeIfAny G.None = Unit {0}
-InRangeIfAny (G.Some g) = GroupInRange g
+abbrev pub InRangeIfAny : Option ArrivalGroup → Type 0
+InRangeIfAny None = Unit {0}
+InRangeIfAny (Some g) = GroupInRange g
 
 pub record GroupsInRange (a : ArrivalGroupAccumulator) : Type 0 where
   pub origin : InstantAtMost most_ns a.send_time_origin
   pub previous : InRangeIfAny a.previous_group
   pub current : InRangeIfAny a.current_group
 
-abbrev pub OveruseInRange : OptionOveruse → Type 0
-OveruseInRange Over.None = Unit {0}
-OveruseInRange (Over.Some o) = (o.count ≤ 2) × AtMost (2 * 10 ^ 18) o.time_overusing
+abbrev pub OveruseInRange : Option Overuse → Type 0
+OveruseInRange None = Unit {0}
+OveruseInRange (Some o) = (o.count ≤ 2) × AtMost (2 * 10 ^ 18) o.time_overusing
 
 -- times within ±10 ^ 12 ms and in order, delays, threshold, counts and the previous trend as the trendline's laws ask
 pub record TrendlineInRange (t : TrendlineEstimator) : Type 0 where
@@ -165,26 +154,26 @@ from_zero : {most x : Float} → within (lit 0) most x ≡ true → In zero₊ m
 unfolding of_bits
 from_zero h = within_in h
 
-instant : (t : OptionInstant) → instant_in t ≡ true → InstantAtMost most_ns t
-instant Instant.None h = tt
-instant (Instant.Some t) h = leb-true t most_ns h
+instant : (t : Option ℕ) → instant_in t ≡ true → InstantAtMost most_ns t
+instant None h = tt
+instant (Some t) h = leb-true t most_ns h
 
-duration : (d : OptionDuration) → duration_in d ≡ true → DurationAtMost most_ns d
-duration Duration.None h = tt
-duration (Duration.Some d) h = leb-true d most_ns h
+duration : (d : Option ℕ) → duration_in d ≡ true → DurationAtMost most_ns d
+duration None h = tt
+duration (Some d) h = leb-true d most_ns h
 
-float : (most : Float) (a : OptionF64) → average_within most a ≡ true → FloatIn zero₊ most a
-float most F64.None h = tt
-float most (F64.Some x) h = from_zero h
+float : (most : Float) (a : Option Float) → average_within most a ≡ true → FloatIn zero₊ most a
+float most None h = tt
+float most (Some x) h = from_zero h
 
 average : (m : MovingAverage) (factor most : Float) → average_in m factor most ≡ true → AverageInRange factor most m
 unfolding average_in
 average m factor most h = search (left, right, from_zero, float)
 
 -- ---- the acknowledged rate
-rate : (r : OptionBitrate) → acked_rate_in r ≡ true → RateIn least_acked (nat (10 ^ 14)) r
-rate Rate.None h = tt
-rate (Rate.Some r) h = in-wider (within_in h) (unfold floats in tt)
+rate : (r : Option Bitrate) → acked_rate_in r ≡ true → RateIn least_acked (nat (10 ^ 14)) r
+rate None h = tt
+rate (Some r) h = in-wider (within_in h) (unfold floats in tt)
 
 window : (w : ℕ) → window_in w ≡ true → ValidWindow w
 unfolding window_in
@@ -219,9 +208,9 @@ acked a h =
     }
 
 -- ---- groups
-group : (g : OptionGroup) → group_in g ≡ true → InRangeIfAny g
-group G.None h = tt
-group (G.Some g) h = search (left, right, leb-true)
+group : (g : Option ArrivalGroup) → group_in g ≡ true → InRangeIfAny g
+group None h = tt
+group (Some g) h = search (left, right, leb-true)
 
 groups : (a : ArrivalGroupAccumulator) → groups_in a ≡ true → GroupsInRange a
 unfolding groups_in
@@ -295,10 +284,10 @@ overuse-time (Delta.Negative n) h = leb-true n most_overuse h
 overuse-time (Delta.Positive n) h = leb-true n most_overuse h
 overuse-time Delta.PositiveInfinity h = absurd (is_true false h)
 
-overuse : (o : OptionOveruse) → overuse_in o ≡ true → OveruseInRange o
+overuse : (o : Option Overuse) → overuse_in o ≡ true → OveruseInRange o
 unfolding overuse_in
-overuse Over.None h = tt
-overuse (Over.Some o) h = (search (left, leb-true), search (left, right, overuse-time))
+overuse None h = tt
+overuse (Some o) h = (search (left, leb-true), search (left, right, overuse-time))
 
 trendline : (t : TrendlineEstimator) → Sized t.history → trendline_in t ≡ true → TrendlineInRange t
 unfolding trendline_in
@@ -338,9 +327,9 @@ trendline-sound {t} r = record {
   last-update = r.last-update;
 }
   where
-    overuse-sound : (o : OptionOveruse) → OveruseInRange o → SoundOveruse o
-    overuse-sound Over.None h = tt
-    overuse-sound (Over.Some o) h = h.0
+    overuse-sound : (o : Option Overuse) → OveruseInRange o → SoundOveruse o
+    overuse-sound None h = tt
+    overuse-sound (Some o) h = h.0
 
 pub rate-sound : {c : RateControlState} → T (fits binary64 c.min_bitrate.0) → T (fits binary64 c.max_bitrate.0) → RateInRange c → RateControl.Sound c
 rate-sound {c} f g r = record {

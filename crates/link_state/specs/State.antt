@@ -1,5 +1,8 @@
 -- Question 1 of document 01: is the lent state in range? A line for each of its clauses, told part by part. Instants and durations are ns.
-use Rattle.std.specs.Prelude.{ℕ, ◌^◌, ◌+◌, ◌*◌, Bool, true, false, not, ◌&&◌, ◌||◌, List, [], ◌∷◌, leb, eqb, pos, take, Float, ◌≡◌}
+use Rattle.trendline.specs.declared.Overuse.{Overuse}
+use Rattle.arrival_group.specs.declared.ArrivalGroup.{ArrivalGroup}
+use Rattle.bandwidth.specs.declared.Bitrate.{Bitrate}
+use Rattle.std.specs.Prelude.{ℕ, ◌^◌, ◌+◌, ◌*◌, Bool, true, false, not, ◌&&◌, ◌||◌, List, [], ◌∷◌, leb, eqb, pos, take, Float, ◌≡◌, Option, Some, None}
 use Rattle.std.specs.Float.Ieee as Ieee
 use Rattle.std.specs.Float.Ieee.{neg}
 use Rattle.std.proofs.Math.Path.{refl}
@@ -7,29 +10,17 @@ use Rattle.float_order.specs.Binary64.{lit, decimal}
 use Rattle.float_order.specs.Interval.{floats}
 use Rattle.float.specs.Float.{within}
 use Rattle.sqrt.specs.Sqrt.{sqrt}
-use Rattle.average.specs.declared.OptionF64.{OptionF64}
-use Rattle.average.specs.declared.OptionF64.TheVariants as F64
 use Rattle.average.specs.declared.MovingAverage.{MovingAverage}
 use Rattle.bandwidth.specs.Bandwidth as B
 use Rattle.bandwidth.specs.Bandwidth.{min_estimate, max_estimate, most_rate}
 use Rattle.bandwidth.specs.declared.DataSize.{DataSize}
-use Rattle.bandwidth.specs.declared.OptionBitrate.{OptionBitrate}
-use Rattle.bandwidth.specs.declared.OptionBitrate.TheVariants as Rate
 use Rattle.time.specs.declared.TimeDelta.{TimeDelta}
 use Rattle.time.specs.declared.TimeDelta.TheVariants as Delta
-use Rattle.time.specs.declared.OptionInstant.{OptionInstant}
-use Rattle.time.specs.declared.OptionInstant.TheVariants as Instant
-use Rattle.time.specs.declared.OptionDuration.{OptionDuration}
-use Rattle.time.specs.declared.OptionDuration.TheVariants as Duration
 use Rattle.acked_bitrate_estimator.specs.declared.AckedBitrateEstimator.{AckedBitrateEstimator}
-use Rattle.arrival_group.specs.declared.OptionGroup.{OptionGroup}
-use Rattle.arrival_group.specs.declared.OptionGroup.TheVariants as G
 use Rattle.arrival_group.specs.declared.ArrivalGroupAccumulator.{ArrivalGroupAccumulator}
 use Rattle.trendline.specs.Trendline.{max_delay_count, most_timings, max_overuse_count, min_threshold_ms, max_threshold_ms}
 use Rattle.trendline.specs.declared.History.{History}
 use Rattle.trendline.specs.declared.Delays.{Delays}
-use Rattle.trendline.specs.declared.OptionOveruse.{OptionOveruse}
-use Rattle.trendline.specs.declared.OptionOveruse.TheVariants as Over
 use Rattle.trendline.specs.declared.TrendlineEstimator.{TrendlineEstimator}
 use Rattle.rate_control.specs.RateControl.{observed_bit_rate_smoothing_factor}
 use Rattle.rate_control.specs.declared.RateControl.{RateControl}
@@ -82,21 +73,21 @@ pub least_acked-is : least_acked ≡ decimal 8 10
 least_acked-is = unfold floats in refl
 
 -- ---- kinds of fields
-abbrev pub instant_in : OptionInstant → Bool
-instant_in Instant.None = true
-instant_in (Instant.Some t) = leb t most_ns
+abbrev pub instant_in : Option ℕ → Bool
+instant_in None = true
+instant_in (Some t) = leb t most_ns
 
-abbrev pub duration_in : OptionDuration → Bool
-duration_in Duration.None = true
-duration_in (Duration.Some d) = leb d most_ns
+abbrev pub duration_in : Option ℕ → Bool
+duration_in None = true
+duration_in (Some d) = leb d most_ns
 
 -- byte sum as in question 9, and 0 only with an elapsed window of 0
 unfoldable pub sum_in : DataSize → ℕ → Bool
 sum_in sum elapsed = not (B.less sum no_bytes) && bytes_in sum && (B.less no_bytes sum || eqb elapsed 0)
 
-abbrev pub average_within : Float → OptionF64 → Bool
-average_within most F64.None = true
-average_within most (F64.Some a) = within (lit 0) most a
+abbrev pub average_within : Float → Option Float → Bool
+average_within most None = true
+average_within most (Some a) = within (lit 0) most a
 
 -- a smoothing factor as the Rust sets it, the average in its limit, the variance from 0 to 10^30, the deviation its root
 unfoldable pub average_in : MovingAverage → Float → Float → Bool
@@ -107,9 +98,9 @@ average_in m factor most =
     && Ieee.eq m.std (sqrt m.variance)
 
 -- ---- the acknowledged rate: windows as in question 3; absent or from 0.8 to 10^14
-abbrev pub acked_rate_in : OptionBitrate → Bool
-acked_rate_in Rate.None = true
-acked_rate_in (Rate.Some r) = within least_acked most_rate.0 r.0
+abbrev pub acked_rate_in : Option Bitrate → Bool
+acked_rate_in None = true
+acked_rate_in (Some r) = within least_acked most_rate.0 r.0
 
 unfoldable pub acked_in : AckedBitrateEstimator → Bool
 acked_in a =
@@ -122,9 +113,9 @@ acked_in a =
     && instant_in a.last_update
 
 -- ---- groups: the times of one are all there, or there is no group, by its type
-abbrev pub group_in : OptionGroup → Bool
-group_in G.None = true
-group_in (G.Some g) =
+abbrev pub group_in : Option ArrivalGroup → Bool
+group_in None = true
+group_in (Some g) =
     leb g.first_local_send_time most_ns
     && leb g.first_remote_recv_time most_ns
     && leb g.last_local_send_time most_ns
@@ -163,9 +154,9 @@ overuse_time_in (Delta.Negative n) = leb n most_overuse
 overuse_time_in (Delta.Positive n) = leb n most_overuse
 overuse_time_in Delta.PositiveInfinity = false
 
-unfoldable pub overuse_in : OptionOveruse → Bool
-overuse_in Over.None = true
-overuse_in (Over.Some o) = leb o.count max_overuse_count && overuse_time_in o.time_overusing
+unfoldable pub overuse_in : Option Overuse → Bool
+overuse_in None = true
+overuse_in (Some o) = leb o.count max_overuse_count && overuse_time_in o.time_overusing
 
 unfoldable pub trendline_in : TrendlineEstimator → Bool
 trendline_in t =

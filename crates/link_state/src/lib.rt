@@ -6,13 +6,13 @@ ghost use Rattle.std.specs.Float.Ieee as Ieee;
 ghost use Rattle.link_state.specs.State as State;
 
 use acked_bitrate_estimator::AckedBitrateEstimator;
-use arrival_group::{ArrivalGroupAccumulator, OptionGroup};
-use average::{MovingAverage, OptionF64};
-use bandwidth::{Bitrate, DataSize, OptionBitrate};
+use arrival_group::{ArrivalGroupAccumulator};
+use average::{MovingAverage};
+use bandwidth::{Bitrate, DataSize};
 use control::DelayController;
 use rate_control::RateControl;
-use time::{OptionDuration, OptionInstant, TimeDelta};
-use trendline::{Delays, History, OptionOveruse, TrendlineEstimator};
+use time::{TimeDelta};
+use trendline::{Delays, History, TrendlineEstimator};
 
 #[derive(Clone, Copy)]
 pub struct Link {
@@ -35,21 +35,21 @@ const MOST_31: f64 = 1e31;
 const MOST_ROUND_TRIP: f64 = 1e9;
 
 // ---- kinds of fields
-fn instant_in(t: OptionInstant) -> bool
+fn instant_in(t: Option<u64>) -> bool
     ensures { result ≡ State.instant_in t }
 {
     match t {
-        OptionInstant::None => true,
-        OptionInstant::Some(ns) => ns <= MOST_NS,
+        None => true,
+        Some(ns) => ns <= MOST_NS,
     }
 }
 
-fn duration_in(d: OptionDuration) -> bool
+fn duration_in(d: Option<u64>) -> bool
     ensures { result ≡ State.duration_in d }
 {
     match d {
-        OptionDuration::None => true,
-        OptionDuration::Some(ns) => ns <= MOST_NS,
+        None => true,
+        Some(ns) => ns <= MOST_NS,
     }
 }
 
@@ -61,12 +61,12 @@ fn sum_in(sum: DataSize, elapsed: u64) -> bool
     !below & questions::bytes_in(sum) & (some | (elapsed == 0))
 }
 
-fn average_within(most: f64, average: OptionF64) -> bool
+fn average_within(most: f64, average: Option<f64>) -> bool
     ensures { result ≡ State.average_within most average }
 {
     match average {
-        OptionF64::None => true,
-        OptionF64::Some(x) => float::within(0.0, most, x),
+        None => true,
+        Some(x) => float::within(0.0, most, x),
     }
 }
 
@@ -81,12 +81,12 @@ fn average_in(m: MovingAverage, factor: f64, most: f64) -> bool
 }
 
 // ---- the acknowledged rate
-fn acked_rate_in(rate: OptionBitrate) -> bool
+fn acked_rate_in(rate: Option<Bitrate>) -> bool
     ensures { result ≡ State.acked_rate_in rate }
 {
     match rate {
-        OptionBitrate::None => true,
-        OptionBitrate::Some(x) => x.within(Bitrate(0.8), Bitrate::MOST),
+        None => true,
+        Some(x) => x.within(Bitrate(0.8), Bitrate::MOST),
     }
 }
 
@@ -105,12 +105,12 @@ fn acked_in(a: AckedBitrateEstimator) -> bool
 }
 
 // ---- groups
-fn group_in(group: OptionGroup) -> bool
+fn group_in(group: Option<ArrivalGroup>) -> bool
     ensures { result ≡ State.group_in group }
 {
     match group {
-        OptionGroup::None => true,
-        OptionGroup::Some(g) => (g.first_local_send_time <= MOST_NS)
+        None => true,
+        Some(g) => (g.first_local_send_time <= MOST_NS)
             & (g.first_remote_recv_time <= MOST_NS)
             & (g.last_local_send_time <= MOST_NS)
             & (g.last_remote_recv_time <= MOST_NS),
@@ -191,12 +191,12 @@ fn overuse_time_in(time: TimeDelta) -> bool
     }
 }
 
-fn overuse_in(overuse: OptionOveruse) -> bool
+fn overuse_in(overuse: Option<Overuse>) -> bool
     ensures { result ≡ State.overuse_in overuse }
 {
     match overuse {
-        OptionOveruse::None => true,
-        OptionOveruse::Some(o) => {
+        None => true,
+        Some(o) => {
             let time = o.time_overusing;
             (o.count <= 2) & overuse_time_in(time)
         }

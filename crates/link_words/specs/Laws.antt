@@ -1,5 +1,8 @@
 -- Words and links: a stored link has the format and loads as it was, what is not read tells nothing.
-use Rattle.std.specs.Prelude.{ℕ, zero, suc, ◌^◌, ◌<◌, ◌≡◌, Bool, ◌&&◌, ◌||◌, T, eqb, length, Float}
+use Rattle.trendline.specs.declared.Overuse.{Overuse}
+use Rattle.arrival_group.specs.declared.ArrivalGroup.{ArrivalGroup}
+use Rattle.bandwidth.specs.declared.Bitrate.{Bitrate}
+use Rattle.std.specs.Prelude.{ℕ, zero, suc, ◌^◌, ◌<◌, ◌≡◌, Bool, ◌&&◌, ◌||◌, T, eqb, length, Float, Option, Some, None}
 use Rattle.std.proofs.Common.{arith, ap, subst, ◌∙◌, length-set, SFits}
 use Rattle.std.proofs.Math.Path.{refl, ap₂}
 use Rattle.std.proofs.Math.Bool.{true, false}
@@ -13,24 +16,12 @@ use Rattle.std.specs.Float.Ieee.Bits.{of_bits-to_bits, of_bits-fits}
 use Rattle.std.proofs.Math.Facts.{to_z-of_z, sfits_to_z}
 use Rattle.std.specs.Int.{w64}
 use Rattle.bool_laws.specs.Bools.{both, chosen, left}
-use Rattle.average.specs.declared.OptionF64.{OptionF64}
-use Rattle.average.specs.declared.OptionF64.TheVariants as F64
 use Rattle.average.specs.declared.MovingAverage.{MovingAverage}
 use Rattle.bandwidth.specs.declared.BandwidthUsage.{BandwidthUsage}
 use Rattle.bandwidth.specs.declared.BandwidthUsage.TheVariants as Usage
-use Rattle.bandwidth.specs.declared.OptionBitrate.{OptionBitrate}
-use Rattle.bandwidth.specs.declared.OptionBitrate.TheVariants as Rate
-use Rattle.time.specs.declared.OptionInstant.{OptionInstant}
-use Rattle.time.specs.declared.OptionInstant.TheVariants as Instant
-use Rattle.time.specs.declared.OptionDuration.{OptionDuration}
-use Rattle.time.specs.declared.OptionDuration.TheVariants as Duration
 use Rattle.time.specs.declared.TimeDelta.{TimeDelta}
 use Rattle.time.specs.declared.TimeDelta.TheVariants as Delta
 use Rattle.acked_bitrate_estimator.specs.declared.AckedBitrateEstimator.{AckedBitrateEstimator}
-use Rattle.arrival_group.specs.declared.OptionGroup.{OptionGroup}
-use Rattle.arrival_group.specs.declared.OptionGroup.TheVariants as G
-use Rattle.trendline.specs.declared.OptionOveruse.{OptionOveruse}
-use Rattle.trendline.specs.declared.OptionOveruse.TheVariants as Over
 use Rattle.trendline.specs.declared.TrendlineEstimator.{TrendlineEstimator}
 use Rattle.rate_control.specs.declared.State.{State}
 use Rattle.rate_control.specs.declared.State.TheVariants as S
@@ -49,13 +40,13 @@ abbrev pub AllHeld : List Float → Type 0
 AllHeld [] = Unit {0}
 AllHeld (x ∷ xs) = Held x × AllHeld xs
 
-abbrev pub RateHeld : OptionBitrate → Type 0
-RateHeld Rate.None = Unit {0}
-RateHeld (Rate.Some r) = Held r.0
+abbrev pub RateHeld : Option Bitrate → Type 0
+RateHeld None = Unit {0}
+RateHeld (Some r) = Held r.0
 
-abbrev pub FloatHeld : OptionF64 → Type 0
-FloatHeld F64.None = Unit {0}
-FloatHeld (F64.Some x) = Held x
+abbrev pub FloatHeld : Option Float → Type 0
+FloatHeld None = Unit {0}
+FloatHeld (Some x) = Held x
 
 pub record AverageHeld (m : MovingAverage) : Type 0 where
   pub factor : Held m.smoothing_factor
@@ -91,17 +82,17 @@ pub record LinkHeld (l : Link) : Type 0 where
   pub smoothed-rtt : AverageHeld l.control.smoothed_rtt
 
 -- ---- enums load as they were
-instant-back : (t : OptionInstant) → instant (instant_tag t) (instant_ns t) ≡ t
-instant-back Instant.None = refl
-instant-back (Instant.Some t) = refl
+instant-back : (t : Option ℕ) → instant (instant_tag t) (instant_ns t) ≡ t
+instant-back None = refl
+instant-back (Some t) = refl
 
-duration-back : (d : OptionDuration) → duration (duration_tag d) (duration_ns d) ≡ d
-duration-back Duration.None = refl
-duration-back (Duration.Some d) = refl
+duration-back : (d : Option ℕ) → duration (duration_tag d) (duration_ns d) ≡ d
+duration-back None = refl
+duration-back (Some d) = refl
 
-bitrate-back : (r : OptionBitrate) → RateHeld r → bitrate (bitrate_tag r) (bitrate_bits r) ≡ r
-bitrate-back Rate.None h = refl
-bitrate-back (Rate.Some r) h = ap (λ (x : Float). Rate.Some (record { 0 = x })) (of_bits-to_bits binary64 r.0 h)
+bitrate-back : (r : Option Bitrate) → RateHeld r → bitrate (bitrate_tag r) (bitrate_bits r) ≡ r
+bitrate-back None h = refl
+bitrate-back (Some r) h = ap (λ (x : Float). Some (record { 0 = x })) (of_bits-to_bits binary64 r.0 h)
 
 average-back : (m : MovingAverage) → AverageHeld m → moving_average (to_bits binary64 m.smoothing_factor) (average_tag m.average) (average_bits m.average) (to_bits binary64 m.variance) (to_bits binary64 m.std) ≡ m
 average-back m h =
@@ -112,15 +103,15 @@ average-back m h =
       of_bits-to_bits binary64 m.std h.std,
     )
   where
-    value : (x : OptionF64) → FloatHeld x → average (average_tag x) (average_bits x) ≡ x
-    value F64.None h = refl
-    value (F64.Some x) h = ap F64.Some (of_bits-to_bits binary64 x h)
+    value : (x : Option Float) → FloatHeld x → average (average_tag x) (average_bits x) ≡ x
+    value None h = refl
+    value (Some x) h = ap Some (of_bits-to_bits binary64 x h)
 
-group-back : (g : OptionGroup)
+group-back : (g : Option ArrivalGroup)
     → group (group_tag g) (group_times g).first_local_send_time (group_times g).first_remote_recv_time (group_times g).last_local_send_time (group_times g).last_remote_recv_time
     ≡ g
-group-back G.None = refl
-group-back (G.Some g) = refl
+group-back None = refl
+group-back (Some g) = refl
 
 time-back : (t : TimeDelta) → time_delta (time_tag t) (time_ns t) ≡ t
 time-back Delta.NegativeInfinity = refl
@@ -128,10 +119,10 @@ time-back (Delta.Negative n) = refl
 time-back (Delta.Positive n) = refl
 time-back Delta.PositiveInfinity = refl
 
-overuse-back : (o : OptionOveruse)
+overuse-back : (o : Option Overuse)
     → overuse (overuse_tag o) (overuse_values o).count (time_tag (overuse_values o).time_overusing) (time_ns (overuse_values o).time_overusing) ≡ o
-overuse-back Over.None = refl
-overuse-back (Over.Some o) = simp (time-back o.time_overusing)
+overuse-back None = refl
+overuse-back (Some o) = simp (time-back o.time_overusing)
 
 hypothesis-back : (h : BandwidthUsage) → hypothesis (hypothesis_tag h) ≡ h
 hypothesis-back Usage.Overuse = refl
@@ -144,25 +135,25 @@ state-back S.Hold = refl
 state-back S.Decrease = refl
 
 -- ---- tags are in range
-instant-formed : (t : OptionInstant) → leb (instant_tag t) 1 ≡ true
-instant-formed Instant.None = refl
-instant-formed (Instant.Some t) = refl
+instant-formed : (t : Option ℕ) → leb (instant_tag t) 1 ≡ true
+instant-formed None = refl
+instant-formed (Some t) = refl
 
-duration-formed : (d : OptionDuration) → leb (duration_tag d) 1 ≡ true
-duration-formed Duration.None = refl
-duration-formed (Duration.Some d) = refl
+duration-formed : (d : Option ℕ) → leb (duration_tag d) 1 ≡ true
+duration-formed None = refl
+duration-formed (Some d) = refl
 
-bitrate-formed : (r : OptionBitrate) → leb (bitrate_tag r) 1 ≡ true
-bitrate-formed Rate.None = refl
-bitrate-formed (Rate.Some r) = refl
+bitrate-formed : (r : Option Bitrate) → leb (bitrate_tag r) 1 ≡ true
+bitrate-formed None = refl
+bitrate-formed (Some r) = refl
 
-average-formed : (x : OptionF64) → leb (average_tag x) 1 ≡ true
-average-formed F64.None = refl
-average-formed (F64.Some x) = refl
+average-formed : (x : Option Float) → leb (average_tag x) 1 ≡ true
+average-formed None = refl
+average-formed (Some x) = refl
 
-group-formed : (g : OptionGroup) → leb (group_tag g) 1 ≡ true
-group-formed G.None = refl
-group-formed (G.Some g) = refl
+group-formed : (g : Option ArrivalGroup) → leb (group_tag g) 1 ≡ true
+group-formed None = refl
+group-formed (Some g) = refl
 
 time-formed : (t : TimeDelta) → leb (time_tag t) 3 ≡ true
 time-formed Delta.NegativeInfinity = refl
@@ -170,9 +161,9 @@ time-formed (Delta.Negative n) = refl
 time-formed (Delta.Positive n) = refl
 time-formed Delta.PositiveInfinity = refl
 
-overuse-formed : (o : OptionOveruse) → (leb (overuse_tag o) 1 ≡ true) × ((eqb (overuse_tag o) 0 || leb (time_tag (overuse_values o).time_overusing) 3) ≡ true)
-overuse-formed Over.None = (refl, refl)
-overuse-formed (Over.Some o) = (refl, time-formed o.time_overusing)
+overuse-formed : (o : Option Overuse) → (leb (overuse_tag o) 1 ≡ true) × ((eqb (overuse_tag o) 0 || leb (time_tag (overuse_values o).time_overusing) 3) ≡ true)
+overuse-formed None = (refl, refl)
+overuse-formed (Some o) = (refl, time-formed o.time_overusing)
 
 hypothesis-formed : (h : BandwidthUsage) → leb (hypothesis_tag h) 2 ≡ true
 hypothesis-formed Usage.Overuse = refl

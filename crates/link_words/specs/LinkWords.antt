@@ -1,34 +1,23 @@
 -- A link as 100 words: the layout, from words to a link and back.
-use Rattle.std.specs.Prelude.{ℕ, zero, suc, Bool, cond, ◌&&◌, ◌||◌, List, [], ◌∷◌, ◌++◌, map, leb, eqb, get_or, set, Float}
+use Rattle.bandwidth.specs.declared.Bitrate.{Bitrate}
+use Rattle.std.specs.Prelude.{ℕ, zero, suc, Bool, cond, ◌&&◌, ◌||◌, List, [], ◌∷◌, ◌++◌, map, leb, eqb, get_or, set, Float, Option, Some, None}
 use Rattle.std.proofs.lemmas.List.Edits.{sets}
 use Rattle.std.specs.Float.{binary64}
 use Rattle.std.specs.Float.Ieee.{of_bits, to_bits}
 use Rattle.std.specs.Int.{w64}
 use Rattle.std.proofs.Common.{of_z, to_z}
-use Rattle.average.specs.declared.OptionF64.{OptionF64}
-use Rattle.average.specs.declared.OptionF64.TheVariants as F64
 use Rattle.average.specs.declared.MovingAverage.{MovingAverage}
 use Rattle.bandwidth.specs.declared.BandwidthUsage.{BandwidthUsage}
 use Rattle.bandwidth.specs.declared.BandwidthUsage.TheVariants as Usage
 use Rattle.bandwidth.specs.declared.DataSize.{DataSize}
-use Rattle.bandwidth.specs.declared.OptionBitrate.{OptionBitrate}
-use Rattle.bandwidth.specs.declared.OptionBitrate.TheVariants as Rate
-use Rattle.time.specs.declared.OptionInstant.{OptionInstant}
-use Rattle.time.specs.declared.OptionInstant.TheVariants as Instant
-use Rattle.time.specs.declared.OptionDuration.{OptionDuration}
-use Rattle.time.specs.declared.OptionDuration.TheVariants as Duration
 use Rattle.time.specs.declared.TimeDelta.{TimeDelta}
 use Rattle.time.specs.declared.TimeDelta.TheVariants as Delta
 use Rattle.acked_bitrate_estimator.specs.declared.AckedBitrateEstimator.{AckedBitrateEstimator}
 use Rattle.arrival_group.specs.declared.ArrivalGroup.{ArrivalGroup}
-use Rattle.arrival_group.specs.declared.OptionGroup.{OptionGroup}
-use Rattle.arrival_group.specs.declared.OptionGroup.TheVariants as G
 use Rattle.arrival_group.specs.declared.ArrivalGroupAccumulator.{ArrivalGroupAccumulator}
 use Rattle.trendline.specs.declared.History.{History}
 use Rattle.trendline.specs.declared.Delays.{Delays}
 use Rattle.trendline.specs.declared.Overuse.{Overuse}
-use Rattle.trendline.specs.declared.OptionOveruse.{OptionOveruse}
-use Rattle.trendline.specs.declared.OptionOveruse.TheVariants as Over
 use Rattle.trendline.specs.declared.TrendlineEstimator.{TrendlineEstimator}
 use Rattle.rate_control.specs.declared.State.{State}
 use Rattle.rate_control.specs.declared.State.TheVariants as S
@@ -52,31 +41,31 @@ abbrev pub data_size_bits : DataSize → ℕ
 data_size_bits s = of_z w64 s.0
 
 -- ---- enums from their words. A tag past the last counts as the last.
-abbrev pub instant : ℕ → ℕ → OptionInstant
-instant tag ns = cond (eqb tag 0) Instant.None (Instant.Some ns)
+abbrev pub instant : ℕ → ℕ → Option ℕ
+instant tag ns = cond (eqb tag 0) None (Some ns)
 
-abbrev pub duration : ℕ → ℕ → OptionDuration
-duration tag ns = cond (eqb tag 0) Duration.None (Duration.Some ns)
+abbrev pub duration : ℕ → ℕ → Option ℕ
+duration tag ns = cond (eqb tag 0) None (Some ns)
 
-abbrev pub bitrate : ℕ → ℕ → OptionBitrate
-bitrate tag bits = cond (eqb tag 0) Rate.None (Rate.Some (record { 0 = of_bits binary64 bits }))
+abbrev pub bitrate : ℕ → ℕ → Option Bitrate
+bitrate tag bits = cond (eqb tag 0) None (Some (record { 0 = of_bits binary64 bits }))
 
-abbrev pub average : ℕ → ℕ → OptionF64
-average tag bits = cond (eqb tag 0) F64.None (F64.Some (of_bits binary64 bits))
+abbrev pub average : ℕ → ℕ → Option Float
+average tag bits = cond (eqb tag 0) None (Some (of_bits binary64 bits))
 
 abbrev pub moving_average : ℕ → ℕ → ℕ → ℕ → ℕ → MovingAverage
 moving_average factor tag bits variance std =
     record { smoothing_factor = of_bits binary64 factor; average = average tag bits; variance = of_bits binary64 variance; std = of_bits binary64 std }
 
-abbrev pub group : ℕ → ℕ → ℕ → ℕ → ℕ → OptionGroup
+abbrev pub group : ℕ → ℕ → ℕ → ℕ → ℕ → Option ArrivalGroup
 group tag a b c d =
-    cond (eqb tag 0) G.None (G.Some (record { first_local_send_time = a; first_remote_recv_time = b; last_local_send_time = c; last_remote_recv_time = d }))
+    cond (eqb tag 0) None (Some (record { first_local_send_time = a; first_remote_recv_time = b; last_local_send_time = c; last_remote_recv_time = d }))
 
 abbrev pub time_delta : ℕ → ℕ → TimeDelta
 time_delta tag ns = cond (eqb tag 0) Delta.NegativeInfinity (cond (eqb tag 1) (Delta.Negative ns) (cond (eqb tag 2) (Delta.Positive ns) Delta.PositiveInfinity))
 
-abbrev pub overuse : ℕ → ℕ → ℕ → ℕ → OptionOveruse
-overuse tag count time_tag ns = cond (eqb tag 0) Over.None (Over.Some (record { count = count; time_overusing = time_delta time_tag ns }))
+abbrev pub overuse : ℕ → ℕ → ℕ → ℕ → Option Overuse
+overuse tag count time_tag ns = cond (eqb tag 0) None (Some (record { count = count; time_overusing = time_delta time_tag ns }))
 
 abbrev pub hypothesis : ℕ → BandwidthUsage
 hypothesis tag = cond (eqb tag 0) Usage.Overuse (cond (eqb tag 1) Usage.Normal Usage.Underuse)
@@ -187,45 +176,45 @@ formed w =
     && tag_within w 98 1
 
 -- ---- words of enums; 0 where there is nothing to store
-abbrev pub instant_tag : OptionInstant → ℕ
-instant_tag Instant.None = 0
-instant_tag (Instant.Some t) = 1
+abbrev pub instant_tag : Option ℕ → ℕ
+instant_tag None = 0
+instant_tag (Some t) = 1
 
-abbrev pub instant_ns : OptionInstant → ℕ
-instant_ns Instant.None = 0
-instant_ns (Instant.Some t) = t
+abbrev pub instant_ns : Option ℕ → ℕ
+instant_ns None = 0
+instant_ns (Some t) = t
 
-abbrev pub duration_tag : OptionDuration → ℕ
-duration_tag Duration.None = 0
-duration_tag (Duration.Some d) = 1
+abbrev pub duration_tag : Option ℕ → ℕ
+duration_tag None = 0
+duration_tag (Some d) = 1
 
-abbrev pub duration_ns : OptionDuration → ℕ
-duration_ns Duration.None = 0
-duration_ns (Duration.Some d) = d
+abbrev pub duration_ns : Option ℕ → ℕ
+duration_ns None = 0
+duration_ns (Some d) = d
 
-abbrev pub bitrate_tag : OptionBitrate → ℕ
-bitrate_tag Rate.None = 0
-bitrate_tag (Rate.Some r) = 1
+abbrev pub bitrate_tag : Option Bitrate → ℕ
+bitrate_tag None = 0
+bitrate_tag (Some r) = 1
 
-abbrev pub bitrate_bits : OptionBitrate → ℕ
-bitrate_bits Rate.None = 0
-bitrate_bits (Rate.Some r) = to_bits binary64 r.0
+abbrev pub bitrate_bits : Option Bitrate → ℕ
+bitrate_bits None = 0
+bitrate_bits (Some r) = to_bits binary64 r.0
 
-abbrev pub average_tag : OptionF64 → ℕ
-average_tag F64.None = 0
-average_tag (F64.Some x) = 1
+abbrev pub average_tag : Option Float → ℕ
+average_tag None = 0
+average_tag (Some x) = 1
 
-abbrev pub average_bits : OptionF64 → ℕ
-average_bits F64.None = 0
-average_bits (F64.Some x) = to_bits binary64 x
+abbrev pub average_bits : Option Float → ℕ
+average_bits None = 0
+average_bits (Some x) = to_bits binary64 x
 
-abbrev pub group_tag : OptionGroup → ℕ
-group_tag G.None = 0
-group_tag (G.Some g) = 1
+abbrev pub group_tag : Option ArrivalGroup → ℕ
+group_tag None = 0
+group_tag (Some g) = 1
 
-abbrev pub group_times : OptionGroup → ArrivalGroup
-group_times G.None = record { first_local_send_time = 0; first_remote_recv_time = 0; last_local_send_time = 0; last_remote_recv_time = 0 }
-group_times (G.Some g) = g
+abbrev pub group_times : Option ArrivalGroup → ArrivalGroup
+group_times None = record { first_local_send_time = 0; first_remote_recv_time = 0; last_local_send_time = 0; last_remote_recv_time = 0 }
+group_times (Some g) = g
 
 abbrev pub time_tag : TimeDelta → ℕ
 time_tag Delta.NegativeInfinity = 0
@@ -239,13 +228,13 @@ time_ns (Delta.Negative n) = n
 time_ns (Delta.Positive n) = n
 time_ns Delta.PositiveInfinity = 0
 
-abbrev pub overuse_tag : OptionOveruse → ℕ
-overuse_tag Over.None = 0
-overuse_tag (Over.Some o) = 1
+abbrev pub overuse_tag : Option Overuse → ℕ
+overuse_tag None = 0
+overuse_tag (Some o) = 1
 
-abbrev pub overuse_values : OptionOveruse → Overuse
-overuse_values Over.None = record { count = 0; time_overusing = Delta.NegativeInfinity }
-overuse_values (Over.Some o) = o
+abbrev pub overuse_values : Option Overuse → Overuse
+overuse_values None = record { count = 0; time_overusing = Delta.NegativeInfinity }
+overuse_values (Some o) = o
 
 abbrev pub hypothesis_tag : BandwidthUsage → ℕ
 hypothesis_tag Usage.Overuse = 0
@@ -272,7 +261,7 @@ acked_words a =
     ∷ instant_ns a.last_update
     ∷ []
 
-abbrev group_words : OptionGroup → List ℕ → List ℕ
+abbrev group_words : Option ArrivalGroup → List ℕ → List ℕ
 group_words g rest =
     group_tag g
     ∷ (group_times g).first_local_send_time
@@ -303,7 +292,7 @@ delays_words d =
     ∷ []
 
 -- words 70 to 76
-unfoldable pub overuse_words : OptionOveruse → OptionInstant → BandwidthUsage → List ℕ
+unfoldable pub overuse_words : Option Overuse → Option ℕ → BandwidthUsage → List ℕ
 overuse_words o last h =
     overuse_tag o
     ∷ (overuse_values o).count
@@ -347,7 +336,7 @@ rate_control_words c =
     ∷ [])
 
 -- words 92 to 99
-unfoldable pub round_trip_words : MovingAverage → ℕ → OptionInstant → List ℕ
+unfoldable pub round_trip_words : MovingAverage → ℕ → Option ℕ → List ℕ
 round_trip_words rtt next last = average_words rtt (next ∷ instant_tag last ∷ instant_ns last ∷ [])
 
 -- words 10 to 99

@@ -1,19 +1,13 @@
 -- Which words are read, and that the others tell nothing of the link.
 use Prim.Native.Nat.{ℕ, zero, suc}
-use Rattle.std.specs.Prelude.{◌≡◌, Bool, cond, not, ◌&&◌, ◌||◌, List, [], ◌∷◌, leb, ltb, eqb, get_or}
+use Rattle.std.specs.Prelude.{◌≡◌, Bool, cond, not, ◌&&◌, ◌||◌, List, [], ◌∷◌, leb, ltb, eqb, get_or, Some, None}
 use Rattle.std.proofs.Math.Path.{refl}
 use Rattle.std.proofs.Common.{ap, subst}
 use Rattle.std.proofs.Math.Bool.{true, false}
 use Rattle.std.proofs.Math.Dec.{T}
 use Rattle.std.specs.Float.{binary64}
 use Rattle.std.specs.Float.Ieee.{of_bits}
-use Rattle.average.specs.declared.OptionF64.TheVariants as F64
-use Rattle.bandwidth.specs.declared.OptionBitrate.TheVariants as Rate
-use Rattle.time.specs.declared.OptionInstant.TheVariants as Instant
-use Rattle.time.specs.declared.OptionDuration.TheVariants as Duration
 use Rattle.time.specs.declared.TimeDelta.TheVariants as Delta
-use Rattle.arrival_group.specs.declared.OptionGroup.TheVariants as G
-use Rattle.trendline.specs.declared.OptionOveruse.TheVariants as Over
 use Rattle.link_words.specs.LinkWords.{acked, average, bitrate, control, delays, duration, floats, formed, group, groups, history, instant, of_words, overuse, rate_control, time_delta, trendline}
 
 -- options: the word of the tag, and the first and the last word of the value
@@ -60,21 +54,21 @@ option-alike {A} a b n x y e h = subst (λ (k : ℕ). cond (eqb a 0) n x ≡ con
     chosen false h = h tt
 
 instant-alike : (a b x y : ℕ) → a ≡ b → (T (not (eqb a 0)) → x ≡ y) → instant a x ≡ instant b y
-instant-alike a b x y e h = option-alike a b Instant.None (Instant.Some x) (Instant.Some y) e (λ p. ap Instant.Some (h p))
+instant-alike a b x y e h = option-alike a b None (Some x) (Some y) e (λ p. ap Some (h p))
 
 duration-alike : (a b x y : ℕ) → a ≡ b → (T (not (eqb a 0)) → x ≡ y) → duration a x ≡ duration b y
-duration-alike a b x y e h = option-alike a b Duration.None (Duration.Some x) (Duration.Some y) e (λ p. ap Duration.Some (h p))
+duration-alike a b x y e h = option-alike a b None (Some x) (Some y) e (λ p. ap Some (h p))
 
 bitrate-alike : (a b x y : ℕ) → a ≡ b → (T (not (eqb a 0)) → x ≡ y) → bitrate a x ≡ bitrate b y
-bitrate-alike a b x y e h = option-alike a b Rate.None _ _ e (λ p. ap (λ (k : ℕ). Rate.Some (record { 0 = of_bits binary64 k })) (h p))
+bitrate-alike a b x y e h = option-alike a b None _ _ e (λ p. ap (λ (k : ℕ). Some (record { 0 = of_bits binary64 k })) (h p))
 
 average-alike : (a b x y : ℕ) → a ≡ b → (T (not (eqb a 0)) → x ≡ y) → average a x ≡ average b y
-average-alike a b x y e h = option-alike a b F64.None _ _ e (λ p. ap (λ (k : ℕ). F64.Some (of_bits binary64 k)) (h p))
+average-alike a b x y e h = option-alike a b None _ _ e (λ p. ap (λ (k : ℕ). Some (of_bits binary64 k)) (h p))
 
 group-alike : (a b x₁ y₁ x₂ y₂ x₃ y₃ x₄ y₄ : ℕ) → a ≡ b → (T (not (eqb a 0)) → x₁ ≡ y₁) → (T (not (eqb a 0)) → x₂ ≡ y₂) → (T (not (eqb a 0)) → x₃ ≡ y₃)
     → (T (not (eqb a 0)) → x₄ ≡ y₄)
     → group a x₁ x₂ x₃ x₄ ≡ group b y₁ y₂ y₃ y₄
-group-alike a b x₁ y₁ x₂ y₂ x₃ y₃ x₄ y₄ e h₁ h₂ h₃ h₄ = option-alike a b G.None _ _ e (λ p. simp (h₁ p, h₂ p, h₃ p, h₄ p))
+group-alike a b x₁ y₁ x₂ y₂ x₃ y₃ x₄ y₄ e h₁ h₂ h₃ h₄ = option-alike a b None _ _ e (λ p. simp (h₁ p, h₂ p, h₃ p, h₄ p))
 
 time-alike : (a b x y : ℕ) → a ≡ b → (T (finite a) → x ≡ y) → time_delta a x ≡ time_delta b y
 time-alike a b x y e h = subst (λ (k : ℕ). time_delta a x ≡ time_delta k y) e (at (eqb a 0) (eqb a 1) (eqb a 2) h)
@@ -89,7 +83,7 @@ time-alike a b x y e h = subst (λ (k : ℕ). time_delta a x ≡ time_delta k y)
 
 overuse-alike : (a b m n s t x y : ℕ) → a ≡ b → (T (not (eqb a 0)) → m ≡ n) → (T (not (eqb a 0)) → s ≡ t) → (T (finite s && not (eqb a 0)) → x ≡ y) → overuse a m s x ≡ overuse b n t y
 overuse-alike a b m n s t x y e h₁ h₂ h₃ =
-    option-alike a b Over.None _ _ e (λ p. simp (h₁ p, time-alike s t x y (h₂ p) (λ q. h₃ (both_hold (finite s) (not (eqb a 0)) q p))))
+    option-alike a b None _ _ e (λ p. simp (h₁ p, time-alike s t x y (h₂ p) (λ q. h₃ (both_hold (finite s) (not (eqb a 0)) q p))))
   where
     both_hold : (s t : Bool) → T s → T t → T (s && t)
     both_hold true t p q = q

@@ -21,14 +21,14 @@ ghost use Rattle.std.proofs.lemmas.List.Edits.{sets};
 ghost use Rattle.link_words.specs.LinkWords as Words;
 
 use acked_bitrate_estimator::AckedBitrateEstimator;
-use arrival_group::{ArrivalGroup, ArrivalGroupAccumulator, OptionGroup};
-use average::{MovingAverage, OptionF64};
-use bandwidth::{BandwidthUsage, Bitrate, DataSize, OptionBitrate};
+use arrival_group::{ArrivalGroup, ArrivalGroupAccumulator};
+use average::{MovingAverage};
+use bandwidth::{BandwidthUsage, Bitrate, DataSize};
 use control::DelayController;
 use link_state::Link;
 use rate_control::{RateControl, State};
-use time::{OptionDuration, OptionInstant, TimeDelta};
-use trendline::{Delays, History, OptionOveruse, Overuse, TrendlineEstimator};
+use time::{TimeDelta};
+use trendline::{Delays, History, Overuse, TrendlineEstimator};
 
 // ---- a size in two's complement
 fn data_size(n: u64) -> DataSize
@@ -51,40 +51,40 @@ fn data_size_bits(size: DataSize) -> u64
 }
 
 // ---- enums from their words. A tag past the last counts as the last.
-fn instant(tag: u64, ns: u64) -> OptionInstant
+fn instant(tag: u64, ns: u64) -> Option<u64>
     ensures { result ≡ Words.instant tag ns }
 {
     if tag == 0 {
-        return OptionInstant::None;
+        return None;
     }
-    OptionInstant::Some(ns)
+    Some(ns)
 }
 
-fn duration(tag: u64, ns: u64) -> OptionDuration
+fn duration(tag: u64, ns: u64) -> Option<u64>
     ensures { result ≡ Words.duration tag ns }
 {
     if tag == 0 {
-        return OptionDuration::None;
+        return None;
     }
-    OptionDuration::Some(ns)
+    Some(ns)
 }
 
-fn bitrate(tag: u64, bits: u64) -> OptionBitrate
+fn bitrate(tag: u64, bits: u64) -> Option<Bitrate>
     ensures { result ≡ Words.bitrate tag bits }
 {
     if tag == 0 {
-        return OptionBitrate::None;
+        return None;
     }
-    OptionBitrate::Some(Bitrate(float_bits::from_bits(bits)))
+    Some(Bitrate(float_bits::from_bits(bits)))
 }
 
-fn average(tag: u64, bits: u64) -> OptionF64
+fn average(tag: u64, bits: u64) -> Option<f64>
     ensures { result ≡ Words.average tag bits }
 {
     if tag == 0 {
-        return OptionF64::None;
+        return None;
     }
-    OptionF64::Some(float_bits::from_bits(bits))
+    Some(float_bits::from_bits(bits))
 }
 
 fn moving_average(
@@ -111,13 +111,13 @@ fn group(
     first_remote_recv_time: u64,
     last_local_send_time: u64,
     last_remote_recv_time: u64,
-) -> OptionGroup
+) -> Option<ArrivalGroup>
     ensures { result ≡ Words.group tag first_local_send_time first_remote_recv_time last_local_send_time last_remote_recv_time }
 {
     if tag == 0 {
-        return OptionGroup::None;
+        return None;
     }
-    OptionGroup::Some(ArrivalGroup {
+    Some(ArrivalGroup {
         first_local_send_time,
         first_remote_recv_time,
         last_local_send_time,
@@ -140,14 +140,14 @@ fn time_delta(tag: u64, ns: u64) -> TimeDelta
     TimeDelta::PositiveInfinity
 }
 
-fn overuse(tag: u64, count: u64, time_tag: u64, ns: u64) -> OptionOveruse
+fn overuse(tag: u64, count: u64, time_tag: u64, ns: u64) -> Option<Overuse>
     ensures { result ≡ Words.overuse tag count time_tag ns }
 {
     if tag == 0 {
-        return OptionOveruse::None;
+        return None;
     }
     let time_overusing = time_delta(time_tag, ns);
-    OptionOveruse::Some(Overuse {
+    Some(Overuse {
         count,
         time_overusing,
     })
@@ -339,99 +339,99 @@ pub fn formed(words: &[u64; 100]) -> bool
 }
 
 // ---- words of enums
-fn instant_tag(t: OptionInstant) -> u64
+fn instant_tag(t: Option<u64>) -> u64
     ensures { result ≡ Words.instant_tag t }
 {
     match t {
-        OptionInstant::None => 0,
-        OptionInstant::Some(_) => 1,
+        None => 0,
+        Some(_) => 1,
     }
 }
 
-fn instant_ns(t: OptionInstant) -> u64
+fn instant_ns(t: Option<u64>) -> u64
     ensures { result ≡ Words.instant_ns t }
 {
     match t {
-        OptionInstant::None => 0,
-        OptionInstant::Some(ns) => ns,
+        None => 0,
+        Some(ns) => ns,
     }
 }
 
-fn duration_tag(d: OptionDuration) -> u64
+fn duration_tag(d: Option<u64>) -> u64
     ensures { result ≡ Words.duration_tag d }
 {
     match d {
-        OptionDuration::None => 0,
-        OptionDuration::Some(_) => 1,
+        None => 0,
+        Some(_) => 1,
     }
 }
 
-fn duration_ns(d: OptionDuration) -> u64
+fn duration_ns(d: Option<u64>) -> u64
     ensures { result ≡ Words.duration_ns d }
 {
     match d {
-        OptionDuration::None => 0,
-        OptionDuration::Some(ns) => ns,
+        None => 0,
+        Some(ns) => ns,
     }
 }
 
-fn bitrate_tag(rate: OptionBitrate) -> u64
+fn bitrate_tag(rate: Option<Bitrate>) -> u64
     ensures { result ≡ Words.bitrate_tag rate }
 {
     match rate {
-        OptionBitrate::None => 0,
-        OptionBitrate::Some(_) => 1,
+        None => 0,
+        Some(_) => 1,
     }
 }
 
-fn bitrate_bits(rate: OptionBitrate) -> u64
+fn bitrate_bits(rate: Option<Bitrate>) -> u64
     ensures { result ≡ Words.bitrate_bits rate }
 {
     match rate {
-        OptionBitrate::None => 0,
-        OptionBitrate::Some(x) => float_bits::to_bits(x.0),
+        None => 0,
+        Some(x) => float_bits::to_bits(x.0),
     }
 }
 
-fn average_tag(average: OptionF64) -> u64
+fn average_tag(average: Option<f64>) -> u64
     ensures { result ≡ Words.average_tag average }
 {
     match average {
-        OptionF64::None => 0,
-        OptionF64::Some(_) => 1,
+        None => 0,
+        Some(_) => 1,
     }
 }
 
-fn average_bits(average: OptionF64) -> u64
+fn average_bits(average: Option<f64>) -> u64
     ensures { result ≡ Words.average_bits average }
 {
     match average {
-        OptionF64::None => 0,
-        OptionF64::Some(x) => float_bits::to_bits(x),
+        None => 0,
+        Some(x) => float_bits::to_bits(x),
     }
 }
 
-fn group_tag(group: OptionGroup) -> u64
+fn group_tag(group: Option<ArrivalGroup>) -> u64
     ensures { result ≡ Words.group_tag group }
 {
     match group {
-        OptionGroup::None => 0,
-        OptionGroup::Some(_) => 1,
+        None => 0,
+        Some(_) => 1,
     }
 }
 
 // A group's instants, each 0 where there is none.
-fn group_times(group: OptionGroup) -> ArrivalGroup
+fn group_times(group: Option<ArrivalGroup>) -> ArrivalGroup
     ensures { result ≡ Words.group_times group }
 {
     match group {
-        OptionGroup::None => ArrivalGroup {
+        None => ArrivalGroup {
             first_local_send_time: 0,
             first_remote_recv_time: 0,
             last_local_send_time: 0,
             last_remote_recv_time: 0,
         },
-        OptionGroup::Some(g) => g,
+        Some(g) => g,
     }
 }
 
@@ -457,25 +457,25 @@ fn time_ns(time: TimeDelta) -> u64
     }
 }
 
-fn overuse_tag(overuse: OptionOveruse) -> u64
+fn overuse_tag(overuse: Option<Overuse>) -> u64
     ensures { result ≡ Words.overuse_tag overuse }
 {
     match overuse {
-        OptionOveruse::None => 0,
-        OptionOveruse::Some(_) => 1,
+        None => 0,
+        Some(_) => 1,
     }
 }
 
 // An overuse, or one whose words are 0.
-fn overuse_values(overuse: OptionOveruse) -> Overuse
+fn overuse_values(overuse: Option<Overuse>) -> Overuse
     ensures { result ≡ Words.overuse_values overuse }
 {
     match overuse {
-        OptionOveruse::None => Overuse {
+        None => Overuse {
             count: 0,
             time_overusing: TimeDelta::NegativeInfinity,
         },
-        OptionOveruse::Some(o) => o,
+        Some(o) => o,
     }
 }
 
@@ -575,8 +575,8 @@ fn store_history(words: &mut [u64; 100], h: History)
 
 fn store_overuse(
     words: &mut [u64; 100],
-    overuse: OptionOveruse,
-    last_threshold_update: OptionInstant,
+    overuse: Option<Overuse>,
+    last_threshold_update: Option<u64>,
     hypothesis: BandwidthUsage,
 )
     ensures { words.new ≡ sets words.old 70 (Words.overuse_words overuse last_threshold_update hypothesis) }
@@ -642,7 +642,7 @@ fn store_round_trip(
     words: &mut [u64; 100],
     rtt: MovingAverage,
     next_timeout: u64,
-    last_twcc_report: OptionInstant,
+    last_twcc_report: Option<u64>,
 )
     ensures { words.new ≡ sets words.old 92 (Words.round_trip_words rtt next_timeout last_twcc_report) }
 {

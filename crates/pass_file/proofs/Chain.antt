@@ -1,4 +1,5 @@
 -- What the proofs of the listing cite: the calls that the waiting packets make, and the lines that are left along the chain.
+use Rattle.std.specs.Prelude.{Option}
 use mathlib.Core.Path.{◌≡◌, refl, sym, ap, subst, ◌∙◌}
 use Prim.Native.Nat.{ℕ, zero, suc, ◌+◌, ◌-◌, ◌≤◌, ◌<◌}
 use mathlib.Core.Bool.{Bool, true, false, cond, and-false}
@@ -12,7 +13,6 @@ use borrow.Author.Tests.{eq-eqb, ne_eqb, lt-leb, leb-true, leb-false}
 use Rattle.acked_bitrate_estimator.specs.declared.AckedBitrateEstimator.{AckedBitrateEstimator}
 use Rattle.bandwidth.specs.declared.BandwidthUsage.{BandwidthUsage}
 use Rattle.bandwidth.specs.declared.Bitrate.{Bitrate}
-use Rattle.bandwidth.specs.declared.OptionBitrate.{OptionBitrate}
 use Rattle.control.specs.Control as Control
 use Rattle.control.specs.declared.DelayController.{DelayController}
 use Rattle.receive_order.specs.ReceiveOrder.{most_packets}
@@ -220,12 +220,12 @@ module _ (bytes sequences sizes sends remotes receives : List ℕ) (n : ℕ) (ac
   the-report h = rw (eq-eqb (kind bytes) Records.report h, sub-zero n)
 
   -- a report that is accepted, and one that is not
-  module _ (h : kind bytes ≡ Records.report) {p : OptionBitrate} {t : ℕ} (ep : p ≡ probe bytes) (et : t ≡ receive bytes) {number : ℕ} {after : AckedBitrateEstimator} (sends₁ remotes₁ receives₁ : List ℕ)
+  module _ (h : kind bytes ≡ Records.report) {p : Option Bitrate} {t : ℕ} (ep : p ≡ probe bytes) (et : t ≡ receive bytes) {number : ℕ} {after : AckedBitrateEstimator} (sends₁ remotes₁ receives₁ : List ℕ)
       (j : JudgesReport acked (report_of_first n sequences sizes sends remotes receives p t) number after (take n sends₁) (take n remotes₁) (take n receives₁)) where
     judged-here : JudgesReport acked report_here number after (take n sends₁) (take n remotes₁) (take n receives₁)
     judged-here = rw (ep, et) at j
 
-    pub report-accepted : {rate : OptionBitrate} {control₁ : DelayController} → number ≡ 0 → rate ≡ after.estimate
+    pub report-accepted : {rate : Option Bitrate} {control₁ : DelayController} → number ≡ 0 → rate ≡ after.estimate
         → control₁ ≡ Control.update control (take (n - 0) sends₁) (take (n - 0) remotes₁) (take (n - 0) receives₁) rate p t
         → Gives (call (link_of acked control) call_here) number (link_of after control₁)
     unfolding accepted_with
@@ -240,7 +240,7 @@ module _ (bytes sequences sizes sends remotes receives : List ℕ) (n : ℕ) (ac
       the-timeout : call (link_of acked control) call_here ≡ outcome_unless number (link_of acked control) (timed_out (link_of acked control) (receive bytes))
       the-timeout = rw (ne_eqb (kind bytes) Records.report h, e, et) (timeout-from-7 (link_of acked control) (receive bytes) y1)
 
-      pub timeout-accepted : {rate : OptionBitrate} {control₁ : DelayController} → number ≡ 0 → rate ≡ acked.estimate → control₁ ≡ Control.handle_timeout control rate t
+      pub timeout-accepted : {rate : Option Bitrate} {control₁ : DelayController} → number ≡ 0 → rate ≡ acked.estimate → control₁ ≡ Control.handle_timeout control rate t
           → Gives (call (link_of acked control) call_here) number (link_of acked control₁)
       unfolding accepted_with timed_out outcome_unless
       timeout-accepted z er f = rw (the-timeout, f, er, et, z) (record { number_is = refl; link-is = refl })

@@ -1,4 +1,6 @@
 -- Judging a report of the first n packets of five lists, after they were put in the order of receipt.
+use Rattle.std.specs.Prelude.{Option}
+use Rattle.bandwidth.specs.declared.Bitrate.{Bitrate}
 use Prim.Native.Nat.{ℕ, zero, suc, ◌-◌, ◌<◌, ◌≤◌}
 use mathlib.Core.Path.{◌≡◌, refl, sym, ap, ◌∙◌}
 use mathlib.Core.Bool.{Bool, true, false}
@@ -7,7 +9,6 @@ use native.Mathlib.Nat.{sub-zero}
 use native.Mathlib.Omega.{arith}
 use lib.ListN.{length, length-take, take}
 use Rattle.acked_bitrate_estimator.specs.declared.AckedBitrateEstimator.{AckedBitrateEstimator}
-use Rattle.bandwidth.specs.declared.OptionBitrate.{OptionBitrate}
 use Rattle.receive_order.specs.ReceiveOrder.{most_packets, put_in_order}
 use Rattle.receive_order.specs.Laws.{put_front, put-length}
 use Rattle.questions.specs.Questions.{Report, in_order, lists_in, number_or0}
@@ -48,7 +49,7 @@ module _ (acked : AckedBitrateEstimator) (s : Report) (j : Judged) {number : ℕ
 pub as_long : (n : ℕ) (sequences sends remotes xs : List ℕ) {after : List ℕ} → length xs ≡ most_waiting → after ≡ put_in_order n remotes sends sequences xs → length after ≡ most_waiting
 as_long n sequences sends remotes xs h e = rw e (put-length n remotes sends sequences xs ∙ h)
 
-module _ (n : ℕ) (sequences sizes sends remotes receives : List ℕ) (probe : OptionBitrate) (now : ℕ) (rooms : KeptLengths sequences sizes sends remotes receives)
+module _ (n : ℕ) (sequences sizes sends remotes receives : List ℕ) (probe : Option Bitrate) (now : ℕ) (rooms : KeptLengths sequences sizes sends remotes receives)
     {sizes₁ sends₁ remotes₁ receives₁ : List ℕ} (es : sizes₁ ≡ put_in_order n remotes sends sequences sizes) (en : sends₁ ≡ put_in_order n remotes sends sequences sends)
     (er : remotes₁ ≡ put_in_order n remotes sends sequences remotes) (ev : receives₁ ≡ put_in_order n remotes sends sequences receives) where
   abbrev came : Report

@@ -1,7 +1,7 @@
 -- What judging a report tells before its link is updated: the number that the report gets, and what the link is then updated with.
-use Rattle.std.specs.Prelude.{ℕ, ◌≡◌, true, List, take}
+use Rattle.bandwidth.specs.declared.Bitrate.{Bitrate}
+use Rattle.std.specs.Prelude.{ℕ, ◌≡◌, true, List, take, Option}
 use Rattle.acked_bitrate_estimator.specs.declared.AckedBitrateEstimator.{AckedBitrateEstimator}
-use Rattle.bandwidth.specs.declared.OptionBitrate.{OptionBitrate}
 use Rattle.control.specs.Control as Control
 use Rattle.control.specs.declared.DelayController.{DelayController}
 use Rattle.questions.specs.Questions.{Report, report-of}
@@ -10,7 +10,7 @@ use Rattle.link_state.specs.declared.Link.{Link}
 use Rattle.link.specs.Link.{accepted_with, refused_by, report}
 
 -- the report of the first n packets of five lists
-abbrev pub report_of_first : ℕ → List ℕ → List ℕ → List ℕ → List ℕ → List ℕ → OptionBitrate → ℕ → Report
+abbrev pub report_of_first : ℕ → List ℕ → List ℕ → List ℕ → List ℕ → List ℕ → Option Bitrate → ℕ → Report
 report_of_first n sequences sizes sends remotes receives probe now =
     report-of (take n sequences) (take n sizes) (take n sends) (take n remotes) (take n receives) probe now
 

@@ -11,7 +11,7 @@ ghost use Rattle.questions.specs.Questions.{first_no, of_timeout};
 ghost use Rattle.pass_file.specs.Judged.{JudgesReport, report_of_first};
 
 use acked_bitrate_estimator::AckedBitrateEstimator;
-use bandwidth::{BandwidthUsage, Bitrate, OptionBitrate};
+use bandwidth::{BandwidthUsage, Bitrate};
 use control::DelayController;
 use link_state::Link;
 use pass_records::Judged;
@@ -63,14 +63,14 @@ fn open() -> Link
     Link { acked, control }
 }
 
-fn probe(bytes: &[u8]) -> OptionBitrate
+fn probe(bytes: &[u8]) -> Option<Bitrate>
     ensures { result ≡ PassFile.probe bytes.now }
 {
     if pass_records::flag(bytes) == 1 {
         let bits = pass_records::probe_bits(bytes);
-        return OptionBitrate::Some(Bitrate(float_bits::from_bits(bits)));
+        return Some(Bitrate(float_bits::from_bits(bits)));
     }
-    OptionBitrate::None
+    None
 }
 
 // The number that a report gets, and the acknowledged-rate estimator after it.
@@ -89,7 +89,7 @@ fn judge_report(
     sends: &mut [u64],
     remotes: &mut [u64],
     receives: &mut [u64],
-    probe: OptionBitrate,
+    probe: Option<Bitrate>,
     moment: u64,
 ) -> JudgedReport
     requires n_le_most_waiting { n ≤ most_waiting }

@@ -1,10 +1,8 @@
 -- Document 01's questions 2 to 9: what each asks, and its number. Instants, durations and windows are ns.
-use Rattle.std.specs.Prelude.{ℕ, ◌%◌, ◌^◌, Bool, true, not, ◌&&◌, cond, List, [], ◌∷◌, leb, eqb, length}
+use Rattle.std.specs.Prelude.{ℕ, ◌%◌, ◌^◌, Bool, true, not, ◌&&◌, cond, List, [], ◌∷◌, leb, eqb, length, Option, Some, None}
 use Rattle.bandwidth.specs.Bandwidth.{less, within, zero, min_estimate, max_estimate, most_rate, most_bytes}
 use Rattle.bandwidth.specs.declared.Bitrate.{Bitrate}
 use Rattle.bandwidth.specs.declared.DataSize.{DataSize}
-use Rattle.bandwidth.specs.declared.OptionBitrate.{OptionBitrate}
-use Rattle.bandwidth.specs.declared.OptionBitrate.TheVariants as Rate
 use Rattle.receive_order.specs.ReceiveOrder.{most_packets, receive_order, entries}
 use Rattle.questions.specs.declared.Refusal.{Refusal}
 use Rattle.questions.specs.declared.OptionRefusal.{OptionRefusal}
@@ -68,10 +66,10 @@ pub record Report : Type 0 where
   pub sends : List ℕ
   pub remotes : List ℕ
   pub receives : List ℕ
-  pub probe : OptionBitrate
+  pub probe : Option Bitrate
   pub now : ℕ
 
-abbrev pub report-of : List ℕ → List ℕ → List ℕ → List ℕ → List ℕ → OptionBitrate → ℕ → Report
+abbrev pub report-of : List ℕ → List ℕ → List ℕ → List ℕ → List ℕ → Option Bitrate → ℕ → Report
 report-of sequences sizes sends remotes receives probe now =
     record { sequences = sequences; sizes = sizes; sends = sends; remotes = remotes; receives = receives; probe = probe; now = now }
 
@@ -119,9 +117,9 @@ unfoldable pub moment_in : ℕ → Bool
 moment_in now = leb now most_instant && eqb (now % millisecond) 0
 
 -- 8: is a probe, if present, finite and from 0 to 10^14?
-unfoldable pub probe_in : OptionBitrate → Bool
-probe_in Rate.None = true
-probe_in (Rate.Some p) = within p zero most_rate
+unfoldable pub probe_in : Option Bitrate → Bool
+probe_in None = true
+probe_in (Some p) = within p zero most_rate
 
 -- 4 to 8; 9 is of the acknowledged rate too, and comes after them
 unfoldable pub of_report : Report → List Question

@@ -4,7 +4,7 @@
 ghost use Rattle.std.specs.Prelude.{◌≡◌};
 ghost use Rattle.questions.specs.Questions as Questions;
 
-use bandwidth::{Bitrate, DataSize, OptionBitrate};
+use bandwidth::{Bitrate, DataSize};
 
 // The question that turned a call down.
 #[derive(Clone, Copy)]
@@ -147,12 +147,12 @@ fn moment_in(now: u64) -> bool
     (now <= MOST_INSTANT) & (now % MS == 0)
 }
 
-fn probe_in(probe: OptionBitrate) -> bool
+fn probe_in(probe: Option<Bitrate>) -> bool
     ensures { result ≡ Questions.probe_in probe }
 {
     match probe {
-        OptionBitrate::None => true,
-        OptionBitrate::Some(rate) => rate.within(Bitrate::ZERO, Bitrate::MOST),
+        None => true,
+        Some(rate) => rate.within(Bitrate::ZERO, Bitrate::MOST),
     }
 }
 
@@ -162,7 +162,7 @@ pub fn report(
     sends: &[u64],
     remotes: &[u64],
     receives: &[u64],
-    probe: OptionBitrate,
+    probe: Option<Bitrate>,
     moment: u64,
 ) -> OptionRefusal
     ensures { Questions.number_or0 result ≡ Questions.first_no (Questions.of_report (Questions.report-of sequences.now sizes.now sends.now remotes.now receives.now probe moment)) }

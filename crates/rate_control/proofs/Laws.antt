@@ -1,5 +1,6 @@
 -- Laws of the rate control that rest on its increase: the range that an update keeps, and how far one increase goes at least.
-use Rattle.std.specs.Prelude.{true, false, ℕ, ◌^◌, Float}
+use Rattle.std.specs.Option.{unwrap_or}
+use Rattle.std.specs.Prelude.{true, false, ℕ, ◌^◌, Float, Option}
 use Rattle.std.proofs.Math.Logic.{inl, inr}
 use Rattle.std.proofs.Common.{arith}
 use Rattle.std.proofs.Math.Dec.{T}
@@ -20,8 +21,7 @@ use Rattle.float.specs.MinMax.{min-either, min-le-l, max-floor, le-clamp}
 use Rattle.bandwidth.specs.Bandwidth as B
 use Rattle.bandwidth.specs.Bandwidth.{min_estimate, max_estimate}
 use Rattle.bandwidth.specs.declared.Bitrate.{Bitrate}
-use Rattle.time.specs.Time.{duration_or}
-use Rattle.time.specs.declared.OptionDuration.{OptionDuration}
+use Rattle.time.specs.Time.{}
 use Rattle.rate_control.specs.declared.Signal.{Signal}
 use Rattle.rate_control.specs.declared.State.{State}
 use Rattle.rate_control.specs.declared.State.TheVariants.{Increase, Hold, Decrease}
@@ -56,7 +56,7 @@ module _ (c : RateControl) (observed : Bitrate) (now : ℕ) (f : T (finite obser
       (mul-ordered binary64 observed.0 beta f (unfold floats in tt))) h
 
 -- whatever the signal, the round trip and the moment
-pub update-sound : (c : RateControl) (s : Signal) (observed : Bitrate) (rtt : OptionDuration) (now : ℕ) → T (finite observed.0) → Sound c
+pub update-sound : (c : RateControl) (s : Signal) (observed : Bitrate) (rtt : Option ℕ) (now : ℕ) → T (finite observed.0) → Sound c
     → Sound (update c s observed rtt now)
 unfolding update with_inputs update_observed_bitrate with_average
 update-sound c s observed rtt now f h = go (transition c.state s)
@@ -85,7 +85,7 @@ raised-high : (c : RateControl) (since : ℕ) → InRange (estimate c) → T (le
 unfolding raised additive_increase multiplicative_increase
 raised-high c since h =
     chosen (λ (x : Float). T (le (plus (estimate c) 999) x)) (is_near_convergence c)
-    (sum-high (estimate c) _ h (additive_step-least c.estimated_bitrate (duration_or c.last_rtt 0) since)) (sum-high (estimate c) _ h (least_step _))
+    (sum-high (estimate c) _ h (additive_step-least c.estimated_bitrate (unwrap_or c.last_rtt 0) since)) (sum-high (estimate c) _ h (least_step _))
 
 -- the limit is at least 1.5 times the observed rate; both may be infinite
 le-limit : (x : Float) → T (fits binary64 x) → T (ordered x) → T (le x (add x increase_limit_margin))

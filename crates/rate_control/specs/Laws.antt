@@ -1,5 +1,6 @@
 -- Laws of the rate control: the range of its estimate, the states that a normal signal leads to, and what its statistics keep. How far one increase goes is in proofs/Laws.antt.
-use Rattle.std.specs.Prelude.{◌≡◌, ◌⊎◌, ℕ, ◌^◌, ◌≤◌, Float}
+use Rattle.std.specs.Option.{option_or}
+use Rattle.std.specs.Prelude.{◌≡◌, ◌⊎◌, ℕ, ◌^◌, ◌≤◌, Float, Option, Some, None}
 use Rattle.std.proofs.Math.Path.{refl}
 use Rattle.std.proofs.Math.Dec.{T}
 use Rattle.std.specs.Float.Ieee as Ieee
@@ -13,17 +14,11 @@ use Rattle.bool_laws.specs.Bools.{chosen}
 use Rattle.float.specs.MinMax.{clamp-in}
 use Rattle.average.specs.Average as Average
 use Rattle.average.specs.Laws as Averages
-use Rattle.average.specs.declared.OptionF64.{OptionF64}
-use Rattle.average.specs.declared.OptionF64.TheVariants as F64
 use Rattle.average.specs.declared.MovingAverage.{MovingAverage}
 use Rattle.bandwidth.specs.Bandwidth as B
 use Rattle.bandwidth.specs.Bandwidth.{min_estimate, max_estimate, most_rate}
 use Rattle.bandwidth.specs.declared.Bitrate.{Bitrate}
-use Rattle.time.specs.Time.{duration_or_else}
-use Rattle.time.specs.declared.OptionInstant.{OptionInstant}
-use Rattle.time.specs.declared.OptionInstant.TheVariants as Instant
-use Rattle.time.specs.declared.OptionDuration.{OptionDuration}
-use Rattle.time.specs.declared.OptionDuration.TheVariants as Duration
+use Rattle.time.specs.Time.{}
 use Rattle.rate_control.specs.declared.Signal.{Signal}
 use Rattle.rate_control.specs.declared.Signal.TheVariants.{Normal}
 use Rattle.rate_control.specs.declared.State.{State}
@@ -57,13 +52,13 @@ NotDecrease Hold = Unit
 NotDecrease Decrease = ⊥
 
 -- none, or at most n
-abbrev pub InstantAtMost : ℕ → OptionInstant → Type 0
-InstantAtMost n Instant.None = Unit
-InstantAtMost n (Instant.Some t) = t ≤ n
+abbrev pub InstantAtMost : ℕ → Option ℕ → Type 0
+InstantAtMost n None = Unit
+InstantAtMost n (Some t) = t ≤ n
 
-abbrev pub DurationAtMost : ℕ → OptionDuration → Type 0
-DurationAtMost n Duration.None = Unit
-DurationAtMost n (Duration.Some d) = d ≤ n
+abbrev pub DurationAtMost : ℕ → Option ℕ → Type 0
+DurationAtMost n None = Unit
+DurationAtMost n (Some d) = d ≤ n
 
 -- the averaged observed rate is from 0 to the greatest rate
 rates : Averages.Limits observed_bit_rate_smoothing_factor most_rate.0
@@ -72,7 +67,7 @@ rates = record { factor-in = in-closed (unfold floats in tt); limit-in = in-clos
 abbrev pub KeptAverage : MovingAverage → Type 0
 KeptAverage m = Averages.Kept observed_bit_rate_smoothing_factor most_rate.0 m
 
-pub record KeptAt (moment rtt : ℕ) (average : MovingAverage) (last : OptionInstant) (last_rtt : OptionDuration) : Type 0 where
+pub record KeptAt (moment rtt : ℕ) (average : MovingAverage) (last : Option ℕ) (last_rtt : Option ℕ) : Type 0 where
   pub average-kept : KeptAverage average
   pub last-at-most : InstantAtMost moment last
   pub rtt-at-most : DurationAtMost rtt last_rtt
@@ -98,7 +93,7 @@ unfolding set_probe_result
 set_probe_result-sound = update_estimate-sound
 
 -- ---- a normal signal
-module _ (c : RateControl) (observed : Bitrate) (rtt : OptionDuration) (now : ℕ) where
+module _ (c : RateControl) (observed : Bitrate) (rtt : Option ℕ) (now : ℕ) where
   -- from Decrease it only holds
   pub normal-holds : c.state ≡ Decrease → update c Normal observed rtt now ≡ with_inputs c Normal observed rtt
   unfolding update with_inputs transition
@@ -134,17 +129,17 @@ reset_below-kept : (m : MovingAverage) (value : Float) → KeptAverage m → Kep
 unfolding reset_below
 reset_below-kept m value k = go (Average.lower_range m three)
   where
-    go : (lower : OptionF64) → KeptAverage (reset_under lower m value)
-    go F64.None = k
-    go (F64.Some lower) = chosen KeptAverage (Ieee.lt value lower) (Averages.reset-kept k) k
+    go : (lower : Option Float) → KeptAverage (reset_under lower m value)
+    go None = k
+    go (Some lower) = chosen KeptAverage (Ieee.lt value lower) (Averages.reset-kept k) k
 
 reset_above-kept : (m : MovingAverage) (value : Float) → KeptAverage m → KeptAverage (reset_above m value)
 unfolding reset_above
 reset_above-kept m value k = go (Average.upper_range m three)
   where
-    go : (upper : OptionF64) → KeptAverage (reset_over upper m value)
-    go F64.None = k
-    go (F64.Some upper) = chosen KeptAverage (Ieee.lt upper value) (Averages.reset-kept k) k
+    go : (upper : Option Float) → KeptAverage (reset_over upper m value)
+    go None = k
+    go (Some upper) = chosen KeptAverage (Ieee.lt upper value) (Averages.reset-kept k) k
 
 pub new-kept : (start low high : Bitrate) (moment rtt : ℕ) → Kept moment rtt (new start low high)
 new-kept start low high moment rtt = record { average-kept = Averages.new-kept observed_bit_rate_smoothing_factor most_rate.0; last-at-most = tt; rtt-at-most = tt }
@@ -158,13 +153,13 @@ module _ (c : RateControl) (moment : ℕ) (rtt : ℕ) (k : Kept moment rtt c) wh
   unfolding with_average
   with_average-kept m h = record { average-kept = h; last-at-most = k.last-at-most; rtt-at-most = k.rtt-at-most }
 
-  with_inputs-kept : (s : Signal) (observed : Bitrate) (d : OptionDuration) → DurationAtMost rtt d → Kept moment rtt (with_inputs c s observed d)
+  with_inputs-kept : (s : Signal) (observed : Bitrate) (d : Option ℕ) → DurationAtMost rtt d → Kept moment rtt (with_inputs c s observed d)
   unfolding with_inputs
   with_inputs-kept s observed d h = record { average-kept = k.average-kept; last-at-most = k.last-at-most; rtt-at-most = go d h }
     where
-      go : (d : OptionDuration) → DurationAtMost rtt d → DurationAtMost rtt (duration_or_else d c.last_rtt)
-      go Duration.None h = k.rtt-at-most
-      go (Duration.Some n) h = h
+      go : (d : Option ℕ) → DurationAtMost rtt d → DurationAtMost rtt (option_or d c.last_rtt)
+      go None h = k.rtt-at-most
+      go (Some n) h = h
 
   pub set_probe_result-kept : (probe : Bitrate) (now : ℕ) → now ≤ moment → Kept moment rtt (set_probe_result c probe now)
   unfolding set_probe_result update_estimate
@@ -187,6 +182,6 @@ module _ (moment rtt : ℕ) (observed : Bitrate) (now : ℕ) (i : In zero₊ mos
   update_in-kept Hold c k = k
 
   -- whatever the signal
-  pub update-kept : (c : RateControl) (s : Signal) (d : OptionDuration) → DurationAtMost rtt d → Kept moment rtt c → Kept moment rtt (update c s observed d now)
+  pub update-kept : (c : RateControl) (s : Signal) (d : Option ℕ) → DurationAtMost rtt d → Kept moment rtt c → Kept moment rtt (update c s observed d now)
   unfolding update
   update-kept c s d h k = update_in-kept (with_inputs c s observed d).state (with_inputs c s observed d) (with_inputs-kept c moment rtt k s observed d h)

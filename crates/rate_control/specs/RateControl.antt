@@ -1,5 +1,6 @@
 -- src/bwe/delay/rate_control.rs: what each step of the rate control gives. Each float operation is rounded once; times are ns.
-use Rattle.std.specs.Prelude.{ℕ, ◌+◌, ◌/◌, Bool, true, false, cond, leb, ltb, Float, ◌≡◌}
+use Rattle.std.specs.Option.{unwrap_or, option_or}
+use Rattle.std.specs.Prelude.{ℕ, ◌+◌, ◌/◌, Bool, true, false, cond, leb, ltb, Float, ◌≡◌, Option, Some, None}
 use Rattle.std.specs.Float.Ieee as Ieee
 use Rattle.std.proofs.Math.Path.{refl}
 use Rattle.float_order.specs.Binary64.{add, sub, mul, div, lit, decimal, one, thousand}
@@ -8,20 +9,12 @@ use Rattle.float.specs.Float.{min, max, ceil}
 use Rattle.seconds.specs.Seconds.{as_secs_f64}
 use Rattle.growth.specs.Growth.{growth_factor}
 use Rattle.average.specs.Average as Average
-use Rattle.average.specs.declared.OptionF64.{OptionF64}
-use Rattle.average.specs.declared.OptionF64.TheVariants as F64
 use Rattle.average.specs.declared.MovingAverage.{MovingAverage}
 use Rattle.bandwidth.specs.Bandwidth as B
 use Rattle.bandwidth.specs.declared.Bitrate.{Bitrate}
-use Rattle.bandwidth.specs.declared.OptionBitrate.{OptionBitrate}
-use Rattle.bandwidth.specs.declared.OptionBitrate.TheVariants as Observed
 use Rattle.bandwidth.specs.declared.BandwidthUsage.{BandwidthUsage}
 use Rattle.bandwidth.specs.declared.BandwidthUsage.TheVariants as Usage
-use Rattle.time.specs.Time.{saturating_duration_since, instant_or, duration_or, duration_or_else}
-use Rattle.time.specs.declared.OptionInstant.{OptionInstant}
-use Rattle.time.specs.declared.OptionInstant.TheVariants as Instant
-use Rattle.time.specs.declared.OptionDuration.{OptionDuration}
-use Rattle.time.specs.declared.OptionDuration.TheVariants as Duration
+use Rattle.time.specs.Time.{saturating_duration_since}
 use Rattle.rate_control.specs.declared.Signal.{Signal}
 use Rattle.rate_control.specs.declared.Signal.TheVariants.{Overuse, Underuse, Normal}
 use Rattle.rate_control.specs.declared.State.{State}
@@ -108,10 +101,10 @@ new start low high =
       estimated_bitrate = start;
       min_bitrate = low;
       max_bitrate = high;
-      last_observed_bitrate = Observed.None;
+      last_observed_bitrate = None;
       averaged_observed_bitrate = Average.new observed_bit_rate_smoothing_factor;
-      last_estimate_update = Instant.None;
-      last_rtt = Duration.None;
+      last_estimate_update = None;
+      last_rtt = None;
     }
 
 unfoldable pub with_average : RateControl → MovingAverage → RateControl
@@ -149,21 +142,21 @@ with_estimate c b now =
       max_bitrate = c.max_bitrate;
       last_observed_bitrate = c.last_observed_bitrate;
       averaged_observed_bitrate = c.averaged_observed_bitrate;
-      last_estimate_update = Instant.Some now;
+      last_estimate_update = Some now;
       last_rtt = c.last_rtt;
     }
 
-unfoldable pub with_inputs : RateControl → Signal → Bitrate → OptionDuration → RateControl
+unfoldable pub with_inputs : RateControl → Signal → Bitrate → Option ℕ → RateControl
 with_inputs c s observed rtt =
     record {
       state = transition c.state s;
       estimated_bitrate = c.estimated_bitrate;
       min_bitrate = c.min_bitrate;
       max_bitrate = c.max_bitrate;
-      last_observed_bitrate = Observed.Some observed;
+      last_observed_bitrate = Some observed;
       averaged_observed_bitrate = c.averaged_observed_bitrate;
       last_estimate_update = c.last_estimate_update;
-      last_rtt = duration_or_else rtt c.last_rtt;
+      last_rtt = option_or rtt c.last_rtt;
     }
 
 -- held to the limits
@@ -175,16 +168,16 @@ set_probe_result c b now = update_estimate c b now
 
 -- ---- decrease
 -- the average starts anew where a value lies below, or above, its range of three deviations
-abbrev pub reset_under : OptionF64 → MovingAverage → Float → MovingAverage
-reset_under F64.None m value = m
-reset_under (F64.Some lower) m value = cond (Ieee.lt value lower) (Average.reset m) m
+abbrev pub reset_under : Option Float → MovingAverage → Float → MovingAverage
+reset_under None m value = m
+reset_under (Some lower) m value = cond (Ieee.lt value lower) (Average.reset m) m
 
 unfoldable pub reset_below : MovingAverage → Float → MovingAverage
 reset_below m value = reset_under (Average.lower_range m observed_bitrate_reset_threshold_std) m value
 
-abbrev pub reset_over : OptionF64 → MovingAverage → Float → MovingAverage
-reset_over F64.None m value = m
-reset_over (F64.Some upper) m value = cond (Ieee.lt upper value) (Average.reset m) m
+abbrev pub reset_over : Option Float → MovingAverage → Float → MovingAverage
+reset_over None m value = m
+reset_over (Some upper) m value = cond (Ieee.lt upper value) (Average.reset m) m
 
 unfoldable pub reset_above : MovingAverage → Float → MovingAverage
 reset_above m value = reset_over (Average.upper_range m three) m value
@@ -196,10 +189,10 @@ unfoldable pub reduction_interval : ℕ → ℕ
 reduction_interval rtt = cond (ltb rtt 10000000) 10000000 (cond (ltb 200000000 rtt) 200000000 rtt)
 
 -- if the last update is missing, a decrease is allowed
-abbrev pub time_to_reduce_after : OptionInstant → RateControl → ℕ → Bitrate → Bool
-time_to_reduce_after Instant.None c now observed = true
-time_to_reduce_after (Instant.Some last) c now observed =
-    cond (leb (reduction_interval (duration_or c.last_rtt default_backoff_time)) (saturating_duration_since now last)) true
+abbrev pub time_to_reduce_after : Option ℕ → RateControl → ℕ → Bitrate → Bool
+time_to_reduce_after None c now observed = true
+time_to_reduce_after (Some last) c now observed =
+    cond (leb (reduction_interval (unwrap_or c.last_rtt default_backoff_time)) (saturating_duration_since now last)) true
     (B.lt observed (B.mul c.estimated_bitrate half))
 
 unfoldable pub time_to_reduce_further : RateControl → ℕ → Bitrate → Bool
@@ -212,9 +205,9 @@ decrease c observed now =
     update_estimate (with_state c Hold) (cond (B.lt c.estimated_bitrate lowered) c.estimated_bitrate lowered) now
 
 -- ---- increase
-abbrev pub near_at : OptionBitrate → MovingAverage → Bool
-near_at Observed.None m = false
-near_at (Observed.Some b) m = Average.within_std m b.0 three
+abbrev pub near_at : Option Bitrate → MovingAverage → Bool
+near_at None m = false
+near_at (Some b) m = Average.within_std m b.0 three
 
 unfoldable pub is_near_convergence : RateControl → Bool
 is_near_convergence c = near_at c.last_observed_bitrate c.averaged_observed_bitrate
@@ -242,7 +235,7 @@ additive_step b rtt since =
     max (mul alpha (estimated_packet_size b)) thousand
 
 unfoldable pub additive_increase : RateControl → ℕ → Float
-additive_increase c since = add c.estimated_bitrate.0 (additive_step c.estimated_bitrate (duration_or c.last_rtt 0) since)
+additive_increase c since = add c.estimated_bitrate.0 (additive_step c.estimated_bitrate (unwrap_or c.last_rtt 0) since)
 
 unfoldable pub multiplicative_increase : RateControl → ℕ → Float
 multiplicative_increase c since =
@@ -260,7 +253,7 @@ unfoldable pub increase : RateControl → Bitrate → ℕ → RateControl
 increase c observed now =
     let limit = increase_limit observed.0 in
     let next = with_average c (reset_above c.averaged_observed_bitrate observed.0) in
-    let since = saturating_duration_since now (instant_or c.last_estimate_update now) in
+    let since = saturating_duration_since now (unwrap_or c.last_estimate_update now) in
     cond (Ieee.le limit c.estimated_bitrate.0) (with_estimate c c.estimated_bitrate now)
     (update_estimate next (B.rate (min (min (mul observed.0 max_estimate_ratio) (raised next since)) limit)) now)
 
@@ -272,5 +265,5 @@ update_in Decrease c observed now =
     cond (time_to_reduce_further counted now observed) (decrease counted observed now) counted
 update_in Hold c observed now = c
 
-unfoldable pub update : RateControl → Signal → Bitrate → OptionDuration → ℕ → RateControl
+unfoldable pub update : RateControl → Signal → Bitrate → Option ℕ → ℕ → RateControl
 update c s observed rtt now = let next = with_inputs c s observed rtt in update_in next.state next observed now

@@ -4,9 +4,8 @@
 ghost use Rattle.std.specs.Prelude.{◌≡◌};
 ghost use Rattle.rate_control.specs.RateControl as Rate;
 
-use average::{MovingAverage, OptionF64};
-use bandwidth::{BandwidthUsage, Bitrate, OptionBitrate};
-use time::{OptionDuration, OptionInstant};
+use average::{MovingAverage};
+use bandwidth::{BandwidthUsage, Bitrate};
 
 const DEFAULT_BACKOFF_TIME: u64 = 100_000_000;
 
@@ -30,11 +29,11 @@ pub struct RateControl {
     pub estimated_bitrate: Bitrate,
     pub min_bitrate: Bitrate,
     pub max_bitrate: Bitrate,
-    pub last_observed_bitrate: OptionBitrate,
+    pub last_observed_bitrate: Option<Bitrate>,
     // The averaged observed rate of the times when the state was Decrease.
     pub averaged_observed_bitrate: MovingAverage,
-    pub last_estimate_update: OptionInstant,
-    pub last_rtt: OptionDuration,
+    pub last_estimate_update: Option<u64>,
+    pub last_rtt: Option<u64>,
 }
 
 impl Signal {
@@ -92,7 +91,7 @@ fn reset_below(average: MovingAverage, value: f64) -> MovingAverage
     ensures { result ≡ Rate.reset_below average value }
 {
     let range = average.lower_range(3.0);
-    let OptionF64::Some(lower) = range else {
+    let Some(lower) = range else {
         return average;
     };
     if value < lower {
@@ -106,7 +105,7 @@ fn reset_above(average: MovingAverage, value: f64) -> MovingAverage
     ensures { result ≡ Rate.reset_above average value }
 {
     let range = average.upper_range(3.0);
-    let OptionF64::Some(upper) = range else {
+    let Some(upper) = range else {
         return average;
     };
     if value > upper {
@@ -133,10 +132,10 @@ impl RateControl {
             estimated_bitrate: start_bitrate,
             min_bitrate,
             max_bitrate,
-            last_observed_bitrate: OptionBitrate::None,
+            last_observed_bitrate: None,
             averaged_observed_bitrate,
-            last_estimate_update: OptionInstant::None,
-            last_rtt: OptionDuration::None,
+            last_estimate_update: None,
+            last_rtt: None,
         }
     }
 
@@ -145,30 +144,6 @@ impl RateControl {
     {
         let b = self.estimated_bitrate;
         b
-    }
-
-    // The same rate control, with each enum that holds a value put together anew.
-    pub fn copied(self) -> Self
-        ensures { result ≡ self }
-    {
-        let state = self.state;
-        let estimated_bitrate = self.estimated_bitrate;
-        let min_bitrate = self.min_bitrate;
-        let max_bitrate = self.max_bitrate;
-        let observed = self.last_observed_bitrate;
-        let average = self.averaged_observed_bitrate;
-        let update = self.last_estimate_update;
-        let rtt = self.last_rtt;
-        Self {
-            state,
-            estimated_bitrate,
-            min_bitrate,
-            max_bitrate,
-            last_observed_bitrate: observed.copied(),
-            averaged_observed_bitrate: average.copied(),
-            last_estimate_update: update.copied(),
-            last_rtt: rtt.copied(),
-        }
     }
 
     fn with_average(mut self, average: MovingAverage) -> Self
@@ -217,13 +192,13 @@ impl RateControl {
             max_bitrate,
             last_observed_bitrate,
             averaged_observed_bitrate,
-            last_estimate_update: OptionInstant::Some(now),
+            last_estimate_update: Some(now),
             last_rtt,
         }
     }
 
     // What an update hands in, before the state is acted on.
-    fn with_inputs(self, signal: Signal, observed_bitrate: Bitrate, rtt: OptionDuration) -> Self
+    fn with_inputs(self, signal: Signal, observed_bitrate: Bitrate, rtt: Option<u64>) -> Self
         ensures { result ≡ Rate.with_inputs self signal observed_bitrate rtt }
     {
         let before = self.state;
@@ -239,10 +214,10 @@ impl RateControl {
             estimated_bitrate,
             min_bitrate,
             max_bitrate,
-            last_observed_bitrate: OptionBitrate::Some(observed_bitrate),
+            last_observed_bitrate: Some(observed_bitrate),
             averaged_observed_bitrate,
             last_estimate_update,
-            last_rtt: time::duration_or_else(rtt, last),
+            last_rtt: rtt.or(last),
         }
     }
 
@@ -259,11 +234,11 @@ impl RateControl {
         ensures { result ≡ Rate.time_to_reduce_further self now observed_bitrate }
     {
         let last_estimate_update = self.last_estimate_update;
-        let OptionInstant::Some(last_change) = last_estimate_update else {
+        let Some(last_change) = last_estimate_update else {
             return true; // no change yet
         };
         let last_rtt = self.last_rtt;
-        let rtt = time::duration_or(last_rtt, DEFAULT_BACKOFF_TIME);
+        let rtt = last_rtt.unwrap_or(DEFAULT_BACKOFF_TIME);
         if reduction_interval(rtt) <= time::saturating_duration_since(now, last_change) {
             return true;
         }
@@ -275,7 +250,7 @@ impl RateControl {
         ensures { result ≡ Rate.is_near_convergence self }
     {
         let last_observed_bitrate = self.last_observed_bitrate;
-        let OptionBitrate::Some(observed) = last_observed_bitrate else {
+        let Some(observed) = last_observed_bitrate else {
             return false;
         };
         let average = self.averaged_observed_bitrate;
@@ -295,7 +270,7 @@ impl RateControl {
         ensures { result ≡ Rate.additive_increase self since_last_update }
     {
         let last_rtt = self.last_rtt;
-        let response_time = response_time(time::duration_or(last_rtt, 0));
+        let response_time = response_time(last_rtt.unwrap_or(0));
         let alpha = 0.5 * float::min(seconds::as_secs_f64(since_last_update) / response_time, 1.0);
         let size = self.estimated_packet_size();
         self.estimated_bitrate.0 + float::max(alpha * size, 1000.0)
@@ -336,7 +311,7 @@ impl RateControl {
             return self.with_estimate(estimated_bitrate, now);
         }
         let last = self.last_estimate_update;
-        let since = time::saturating_duration_since(now, time::instant_or(last, now));
+        let since = time::saturating_duration_since(now, last.unwrap_or(now));
         let average = self.averaged_observed_bitrate;
         let next = self.with_average(reset_above(average, observed));
         let max = observed * Self::MAX_ESTIMATE_RATIO;
@@ -367,7 +342,7 @@ impl RateControl {
         self,
         signal: Signal,
         observed_bitrate: Bitrate,
-        rtt: OptionDuration,
+        rtt: Option<u64>,
         now: u64,
     ) -> Self
         ensures { result ≡ Rate.update self signal observed_bitrate rtt now }

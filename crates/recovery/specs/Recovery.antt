@@ -1,5 +1,5 @@
 -- What calls do to a rate control, and how its estimate recovers: the claim, whose proof is proofs/RecoveryProof.antt.
-use Rattle.std.specs.Prelude.{◌≡◌, false, List, [], ◌∷◌, ℕ, suc, ◌*◌, ◌^◌, ◌<◌, negsuc, T, Float}
+use Rattle.std.specs.Prelude.{◌≡◌, false, List, [], ◌∷◌, ℕ, suc, ◌*◌, ◌^◌, ◌<◌, negsuc, T, Float, Option}
 use Rattle.std.specs.Float.{fin}
 use Rattle.std.specs.Float.Ieee.{le}
 use Rattle.std.specs.Float.Ieee.Scale.{finite}
@@ -9,7 +9,6 @@ use Rattle.float_order.specs.Plus.{plus}
 use Rattle.bandwidth.specs.declared.Bitrate.{Bitrate}
 use Rattle.bandwidth.specs.declared.BandwidthUsage.{BandwidthUsage}
 use Rattle.bandwidth.specs.declared.BandwidthUsage.TheVariants as Usage
-use Rattle.time.specs.declared.OptionDuration.{OptionDuration}
 use Rattle.rate_control.specs.RateControl as Rate
 use Rattle.rate_control.specs.Laws.{AtLeastSmallest, estimate}
 use Rattle.rate_control.specs.declared.RateControl.{RateControl}
@@ -18,7 +17,7 @@ use Rattle.rate_control.specs.declared.RateControl.{RateControl}
 pub record Update : Type 0 where
   pub hypothesis : BandwidthUsage
   pub observed : Bitrate
-  pub rtt : OptionDuration
+  pub rtt : Option ℕ
   pub moment : ℕ
 
 -- what a call does to a rate control; a refused call, and a timeout that hands no rate on, do nothing

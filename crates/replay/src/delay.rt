@@ -1,14 +1,12 @@
 // The operations of tools/oracle/drive.rs on the trendline, the rate control and the delay controller, on our side.
 use crate::numbers::{delta, delta_ns, delta_tag, option_rate, rate, rate_bits, usage};
 use arrival_group::InterGroupDelayDelta;
-use average::OptionF64;
-use bandwidth::{Bitrate, OptionBitrate};
+use bandwidth::{Bitrate};
 use cases::Case;
 use control::DelayController;
 use rate_control::{RateControl, Signal, State};
 use std::num::wrapping_add_usize;
-use time::OptionDuration;
-use trendline::{OptionOveruse, TrendlineEstimator};
+use trendline::{TrendlineEstimator};
 
 // The packets that wait for a report, with room for 128: send instants, then remote ones from place 128 on, then local ones from 256 on.
 #[derive(Clone, Copy)]
@@ -23,18 +21,18 @@ fn trend_word(t: TrendlineEstimator) -> u64 {
     let overuse = t.overuse;
     let count = usage(t.hypothesis()) | (d.num_delay_variations << 8);
     match overuse {
-        OptionOveruse::None => count,
-        OptionOveruse::Some(o) => {
+        None => count,
+        Some(o) => {
             let time = o.time_overusing;
             count | (o.count << 32) | ((delta_tag(time) % 4 + 1) << 40)
         }
     }
 }
 
-fn overusing_ns(overuse: OptionOveruse) -> u64 {
+fn overusing_ns(overuse: Option<Overuse>) -> u64 {
     match overuse {
-        OptionOveruse::None => 0,
-        OptionOveruse::Some(o) => {
+        None => 0,
+        Some(o) => {
             let time = o.time_overusing;
             delta_ns(time)
         }
@@ -71,8 +69,8 @@ pub fn rate_words(r: RateControl) -> [u64; 6] {
     let std = float_bits::to_bits(m.std);
     let average = m.get();
     match average {
-        OptionF64::None => [estimate, number, 0, 0, variance, std],
-        OptionF64::Some(x) => [estimate, number, 1, float_bits::to_bits(x), variance, std],
+        None => [estimate, number, 0, 0, variance, std],
+        Some(x) => [estimate, number, 1, float_bits::to_bits(x), variance, std],
     }
 }
 
@@ -84,8 +82,8 @@ pub fn control_words(c: DelayController) -> [u64; 6] {
     let next = c.poll_timeout();
     let rtt = c.get_smoothed_rtt();
     match rtt {
-        OptionDuration::None => [estimate, word, next, threshold, 0, 0],
-        OptionDuration::Some(d) => [estimate, word, next, threshold, 1, d],
+        None => [estimate, word, next, threshold, 0, 0],
+        Some(d) => [estimate, word, next, threshold, 1, d],
     }
 }
 
@@ -99,11 +97,11 @@ fn signal(n: u64) -> Signal {
     Signal::Normal
 }
 
-fn option_duration(tag: u64, n: u64) -> OptionDuration {
+fn option_duration(tag: u64, n: u64) -> Option<u64> {
     if tag == 1 {
-        return OptionDuration::Some(n);
+        return Some(n);
     }
-    OptionDuration::None
+    None
 }
 
 pub fn next_trendline(t: TrendlineEstimator, i: Case) -> TrendlineEstimator {

@@ -1,5 +1,5 @@
 // The numbers that stand for enums and floats in a case.
-use bandwidth::{BandwidthUsage, Bitrate, OptionBitrate};
+use bandwidth::{BandwidthUsage, Bitrate};
 use time::TimeDelta;
 
 pub fn rate(b: u64) -> Bitrate {
@@ -10,11 +10,11 @@ pub fn rate_bits(b: Bitrate) -> u64 {
     float_bits::to_bits(b.as_f64())
 }
 
-pub fn option_rate(tag: u64, b: u64) -> OptionBitrate {
+pub fn option_rate(tag: u64, b: u64) -> Option<Bitrate> {
     if tag == 1 {
-        return OptionBitrate::Some(rate(b));
+        return Some(rate(b));
     }
-    OptionBitrate::None
+    None
 }
 
 pub fn usage(u: BandwidthUsage) -> u64 {

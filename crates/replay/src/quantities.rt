@@ -1,9 +1,9 @@
 // The operations of tools/oracle/drive.rs on times, rates and sizes, averages, the acknowledged rate and groups, on our side.
 use crate::numbers::{delta, delta_ns, delta_tag, rate, rate_bits};
 use acked_bitrate_estimator::AckedBitrateEstimator;
-use arrival_group::{Accumulated, ArrivalGroupAccumulator, OptionDelta};
-use average::{MovingAverage, OptionF64};
-use bandwidth::{Bitrate, DataSize, OptionBitrate};
+use arrival_group::{Accumulated, ArrivalGroupAccumulator};
+use average::{MovingAverage};
+use bandwidth::{Bitrate, DataSize};
 use cases::Case;
 use time::{Ordering, TimeDelta, Timestamp};
 
@@ -129,17 +129,17 @@ pub fn bandwidth_words(i: Case) -> [u64; 6] {
     ]
 }
 
-fn is_some(x: OptionF64) -> bool {
+fn is_some(x: Option<f64>) -> bool {
     match x {
-        OptionF64::None => false,
-        OptionF64::Some(_) => true,
+        None => false,
+        Some(_) => true,
     }
 }
 
-fn option_bits(x: OptionF64) -> u64 {
+fn option_bits(x: Option<f64>) -> u64 {
     match x {
-        OptionF64::None => 0,
-        OptionF64::Some(v) => float_bits::to_bits(v),
+        None => 0,
+        Some(v) => float_bits::to_bits(v),
     }
 }
 
@@ -167,16 +167,16 @@ pub fn acked_words(a: AckedBitrateEstimator) -> [u64; 6] {
     let bytes = float::as_u64(sum.as_bytes_f64());
     let variance = float_bits::to_bits(a.estimate_var);
     match estimate {
-        OptionBitrate::None => [0, 0, variance, bytes, a.current_window, 0],
-        OptionBitrate::Some(e) => [1, rate_bits(e), variance, bytes, a.current_window, 0],
+        None => [0, 0, variance, bytes, a.current_window, 0],
+        Some(e) => [1, rate_bits(e), variance, bytes, a.current_window, 0],
     }
 }
 
 pub fn group_words(g: Accumulated) -> [u64; 6] {
     let delta = g.delta;
     match delta {
-        OptionDelta::None => [0, 0, 0, 0, 0, 0],
-        OptionDelta::Some(x) => {
+        None => [0, 0, 0, 0, 0, 0],
+        Some(x) => {
             let s = x.send_delta;
             let a = x.arrival_delta;
             [
@@ -218,7 +218,7 @@ pub fn next_acked(a: AckedBitrateEstimator, i: Case) -> AckedBitrateEstimator {
 pub fn no_groups() -> Accumulated {
     Accumulated {
         accumulator: ArrivalGroupAccumulator::new(),
-        delta: OptionDelta::None,
+        delta: None,
     }
 }
 

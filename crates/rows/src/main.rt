@@ -3,7 +3,7 @@
 
 use acked_bitrate_estimator::AckedBitrateEstimator;
 use arrival_group::ArrivalGroup;
-use bandwidth::{Bitrate, DataSize, OptionBitrate};
+use bandwidth::{Bitrate, DataSize};
 use control::DelayController;
 use link_state::Link;
 use std::io;
@@ -26,8 +26,8 @@ fn window(rt: &impl Print, name: &str) -> io::Result<()> {
         .update(500_000_000, DataSize::bytes(1000))
         .current_estimate();
     match estimate {
-        OptionBitrate::None => println!(rt; "{name}: no sample"),
-        OptionBitrate::Some(_) => println!(rt; "{name}: a sample"),
+        None => println!(rt; "{name}: no sample"),
+        Some(_) => println!(rt; "{name}: a sample"),
     }
 }
 
@@ -55,7 +55,7 @@ fn packets(rt: &impl Print, name: &str, sizes: &[u64], instants: &[u64]) -> io::
         instants,
         instants,
         instants,
-        OptionBitrate::None,
+        None,
         0,
     );
     let answer = called.answer;

@@ -1,5 +1,6 @@
 -- The 13 starred rows of document 01 as one table. Each has the answer that the definitions give: proofs/Rows.antt.
-use Rattle.std.specs.Prelude.{ℕ, ◌*◌, ◌^◌, ◌/◌, cond, List, [], ◌∷◌, pos}
+use Rattle.bandwidth.specs.declared.Bitrate.{Bitrate}
+use Rattle.std.specs.Prelude.{ℕ, ◌*◌, ◌^◌, ◌/◌, cond, List, [], ◌∷◌, pos, Option, Some, None}
 use Rattle.std.specs.Float.{binary64}
 use Rattle.std.specs.Float.Ieee.{of_int, to_bits}
 use Rattle.float_order.specs.Binary64.{lit}
@@ -8,12 +9,9 @@ use Rattle.growth.specs.Growth.{growth_factor}
 use Rattle.bandwidth.specs.Bandwidth as B
 use Rattle.bandwidth.specs.declared.BandwidthUsage.{BandwidthUsage}
 use Rattle.bandwidth.specs.declared.BandwidthUsage.TheVariants.{Overuse, Normal}
-use Rattle.bandwidth.specs.declared.OptionBitrate.{OptionBitrate}
-use Rattle.bandwidth.specs.declared.OptionBitrate.TheVariants as Rate
 use Rattle.acked_bitrate_estimator.specs.AckedBitrateEstimator as Acked
 use Rattle.acked_bitrate_estimator.specs.declared.AckedBitrateEstimator.{AckedBitrateEstimator}
-use Rattle.acked_bitrate_estimator.specs.declared.OptionSample.{OptionSample}
-use Rattle.acked_bitrate_estimator.specs.declared.OptionSample.TheVariants as Sample
+use Rattle.acked_bitrate_estimator.specs.declared.Sample.{Sample}
 use Rattle.arrival_group.specs.ArrivalGroup.{rounded}
 use Rattle.trendline.specs.Trendline as Trendline
 use Rattle.trendline.specs.Trendline.{threshold, new_delays}
@@ -73,7 +71,7 @@ fresh h =
 
 unfoldable pub after : DelayController → List Observed → DelayController
 after c [] = c
-after c (u ∷ us) = after (update_estimate c (Rate.Some (B.bps u.bps)) Rate.None (ms u.ms)) us
+after c (u ∷ us) = after (update_estimate c (Some (B.bps u.bps)) None (ms u.ms)) us
 
 abbrev pub received : AckedBitrateEstimator → ℕ → AckedBitrateEstimator
 received a n = Acked.update a (ms n) (B.bytes (pos 1000))
@@ -81,13 +79,13 @@ received a n = Acked.update a (ms n) (B.bytes (pos 1000))
 abbrev pub received499 : AckedBitrateEstimator
 received499 = received (received (Acked.new (ms 500) (ms 150)) 0) 499
 
-abbrev pub small : OptionSample → ℕ
-small Sample.None = 2
-small (Sample.Some rate s) = cond s 1 0
+abbrev pub small : Option Sample → ℕ
+small None = 2
+small (Some s) = cond s.is_small 1 0
 
-abbrev pub bits_of : OptionBitrate → ℕ
-bits_of Rate.None = 0
-bits_of (Rate.Some r) = to_bits binary64 r.0
+abbrev pub bits_of : Option Bitrate → ℕ
+bits_of None = 0
+bits_of (Some r) = to_bits binary64 r.0
 
 unfoldable pub answer : Question → ℕ
 answer (estimate h us) = to_bits binary64 (after (fresh h) us).rate_control.estimated_bitrate.0

@@ -1,15 +1,11 @@
 -- src/bwe/time.rs: what each operation on instants and lengths of time gives. Numbers are ns.
-use Rattle.std.specs.Prelude.{ℕ, suc, ◌+◌, ◌-◌, ◌*◌, ◌/◌, ◌^◌, ◌≤◌, min, Bool, true, false, cond, ℤ, pos, negsuc, ◌==◌, nat_le, nat_lt, Float}
+use Rattle.std.specs.Prelude.{ℕ, suc, ◌+◌, ◌-◌, ◌*◌, ◌/◌, ◌^◌, ◌≤◌, min, Bool, true, false, cond, ℤ, pos, negsuc, ◌==◌, nat_le, nat_lt, Float, Option, Some, None}
 use Rattle.std.specs.Float.Ieee as Ieee
 use Rattle.std.specs.Float.{inf}
 use Rattle.seconds.specs.Seconds as Seconds
 use Rattle.bandwidth.specs.Bandwidth as Bandwidth
 use Rattle.bandwidth.specs.declared.Bitrate.{Bitrate}
 use Rattle.bandwidth.specs.declared.DataSize.{DataSize}
-use Rattle.time.specs.declared.OptionInstant.{OptionInstant}
-use Rattle.time.specs.declared.OptionInstant.TheVariants as Instant
-use Rattle.time.specs.declared.OptionDuration.{OptionDuration}
-use Rattle.time.specs.declared.OptionDuration.TheVariants as Duration
 use Rattle.time.specs.declared.Ordering.{Ordering}
 use Rattle.time.specs.declared.Ordering.TheVariants.{Less, Equal, Greater}
 use Rattle.time.specs.declared.Timestamp.{Timestamp}
@@ -29,24 +25,9 @@ saturating_duration_since later earlier = later - earlier
 unfoldable pub saturating_add : ℕ → ℕ → ℕ
 saturating_add a b = min (a + b) (2 ^ 64 - 1)
 
-unfoldable pub saturating_mul : ℕ → ℕ → ℕ
-saturating_mul a b = min (a * b) (2 ^ 64 - 1)
-
-abbrev pub instant_or : OptionInstant → ℕ → ℕ
-instant_or Instant.None other = other
-instant_or (Instant.Some t) other = t
-
-abbrev pub duration_or : OptionDuration → ℕ → ℕ
-duration_or Duration.None other = other
-duration_or (Duration.Some d) other = d
-
-abbrev pub duration_or_else : OptionDuration → OptionDuration → OptionDuration
-duration_or_else Duration.None other = other
-duration_or_else (Duration.Some d) other = Duration.Some d
-
-unfoldable pub longest : OptionDuration → ℕ → OptionDuration
-longest Duration.None other = Duration.Some other
-longest (Duration.Some d) other = Duration.Some (cond (nat_lt d other) other d)
+unfoldable pub longest : Option ℕ → ℕ → Option ℕ
+longest None other = Some other
+longest (Some d) other = Some (cond (nat_lt d other) other d)
 
 -- ---- the added limits: a finite length above the limit is the infinity of its sign, such an instant `DistantFuture`.
 -- An operation puts them to what it is given first: its table, by a name with `Limited`, is for values within them.

@@ -2,27 +2,13 @@
 // A finite length above MAX, given or computed, is the infinity of its sign; such an instant is `DistantFuture`, one below 0 `DistantPast`.
 #![tactic(auto)]
 
-ghost use Rattle.std.specs.Prelude.{◌≡◌, unsigned_abs};
+ghost use Rattle.std.specs.Prelude.{◌≡◌};
 ghost use Rattle.time.specs.Time as Time;
 
 use bandwidth::{Bitrate, DataSize};
 
 // The longest finite length, and the last exact instant, in ns.
 pub const MAX: u64 = 4_000_000_000_000_000_000;
-
-// Rust's `Option<Instant>`.
-#[derive(Clone, Copy)]
-pub enum OptionInstant {
-    None,
-    Some(u64),
-}
-
-// Rust's `Option<Duration>`.
-#[derive(Clone, Copy)]
-pub enum OptionDuration {
-    None,
-    Some(u64),
-}
 
 // Rust's `std::cmp::Ordering`.
 #[derive(Clone, Copy)]
@@ -47,29 +33,6 @@ pub enum TimeDelta {
     PositiveInfinity,
 }
 
-impl OptionInstant {
-    // The same value, put together anew: a copy of an enum as a whole moves its padding too, and a chain of such copies stalls.
-    pub fn copied(self) -> Self
-        ensures { result ≡ self }
-    {
-        match self {
-            OptionInstant::None => OptionInstant::None,
-            OptionInstant::Some(t) => OptionInstant::Some(t),
-        }
-    }
-}
-
-impl OptionDuration {
-    pub fn copied(self) -> Self
-        ensures { result ≡ self }
-    {
-        match self {
-            OptionDuration::None => OptionDuration::None,
-            OptionDuration::Some(d) => OptionDuration::Some(d),
-        }
-    }
-}
-
 // Rust's `Instant::saturating_duration_since`, which a difference of instants is too: an early instant gives 0.
 pub fn saturating_duration_since(later: u64, earlier: u64) -> u64
     ensures { result ≡ Time.saturating_duration_since later earlier }
@@ -80,80 +43,17 @@ pub fn saturating_duration_since(later: u64, earlier: u64) -> u64
     later - earlier
 }
 
-// A sum of ns; past the end of u64, that end.
-pub fn saturating_add(a: u64, b: u64) -> u64
-    ensures { result ≡ Time.saturating_add a b }
-{
-    if b <= 18446744073709551615 - a {
-        return a + b;
-    }
-    18446744073709551615
-}
-
-// A product of ns; past the end of u64, that end.
-fn saturating_mul(a: u64, b: u64) -> u64
-    ensures { result ≡ Time.saturating_mul a b }
-{
-    if b == 0 {
-        return 0;
-    }
-    if a <= 18446744073709551615 / b {
-        return a * b;
-    }
-    18446744073709551615
-}
-
-// Rust's `i64::unsigned_abs`.
-fn unsigned_abs(n: i64) -> u64
-    ensures { result ≡ unsigned_abs n }
-{
-    if n >= 0 {
-        return n as u64;
-    }
-    -(n + 1) as u64 + 1
-}
-
-// The instant, or another where there is none.
-pub fn instant_or(instant: OptionInstant, other: u64) -> u64
-    ensures { result ≡ Time.instant_or instant other }
-{
-    match instant {
-        OptionInstant::None => other,
-        OptionInstant::Some(t) => t,
-    }
-}
-
-// The duration, or another where there is none.
-pub fn duration_or(duration: OptionDuration, other: u64) -> u64
-    ensures { result ≡ Time.duration_or duration other }
-{
-    match duration {
-        OptionDuration::None => other,
-        OptionDuration::Some(d) => d,
-    }
-}
-
-// The first of two durations that is there.
-pub fn duration_or_else(duration: OptionDuration, other: OptionDuration) -> OptionDuration
-    ensures { result ≡ Time.duration_or_else duration other }
-{
-    match duration {
-        OptionDuration::None => other,
-        OptionDuration::Some(d) => OptionDuration::Some(d),
-    }
-}
-
 // The longer of a duration that may be missing and of another.
-pub fn longest(duration: OptionDuration, other: u64) -> OptionDuration
+pub fn longest(duration: Option<u64>, other: u64) -> Option<u64>
     ensures { result ≡ Time.longest duration other }
 {
     match duration {
-        OptionDuration::None => OptionDuration::Some(other),
-        OptionDuration::Some(d) => {
+        None => Some(other),
+        Some(d) => {
             if d < other {
-                return OptionDuration::Some(other);
+                return Some(other);
             }
-            OptionDuration::Some(d)
+            Some(d)
         }
     }
 }
@@ -207,7 +107,7 @@ impl TimeDelta {
     fn units(number: i64, ns: u64) -> Self
         ensures { result ≡ Time.units number ns }
     {
-        let duration = saturating_mul(unsigned_abs(number), ns);
+        let duration = number.unsigned_abs().saturating_mul(ns);
         if number >= 0 {
             return TimeDelta::from(duration);
         }

@@ -1,6 +1,7 @@
 -- What an observation keeps of the estimator, with instants up to s seconds: ranges, counts, the order of the times. The threshold is from 6 to 600.
 -- In use are s = 10 ^ 9, of states that a run reaches, and s = 10 ^ 9 + 1, of lent states that pass question 1.
-use Rattle.std.specs.Prelude.{◌≡◌, false, ◌&&◌, ℕ, ◌+◌, ◌*◌, ◌^◌, ◌≤◌, ◌<◌, min, T, ltb, eqb, length, Float}
+use Rattle.std.specs.Option.{unwrap_or}
+use Rattle.std.specs.Prelude.{◌≡◌, false, ◌&&◌, ℕ, ◌+◌, ◌*◌, ◌^◌, ◌≤◌, ◌<◌, min, T, ltb, eqb, length, Float, Option, Some, None}
 use Rattle.std.proofs.Math.Path.{refl}
 use Rattle.std.proofs.Common.{◌∙◌, add-one, arith}
 use borrow.Author.Tests.{le-ltb, ltb-true, ltb-false, eqb-true}
@@ -14,17 +15,13 @@ use Rattle.float_order.specs.Interval.{floats}
 use Rattle.float_order.specs.Dyadic.{two^}
 use Rattle.float_order.specs.Whole.{nat_le}
 use Rattle.time.specs.Time as Time
-use Rattle.time.specs.Time.{instant_or, saturating_duration_since}
-use Rattle.time.specs.declared.OptionInstant.{OptionInstant}
-use Rattle.time.specs.declared.OptionInstant.TheVariants as Instant
+use Rattle.time.specs.Time.{saturating_duration_since}
 use Rattle.time.specs.declared.TimeDelta.{TimeDelta}
 use Rattle.bandwidth.specs.declared.BandwidthUsage.{BandwidthUsage}
 use Rattle.arrival_group.specs.Laws.{AtMost}
 use Rattle.arrival_group.specs.declared.InterGroupDelayDelta.{InterGroupDelayDelta}
 use Rattle.trendline.specs.declared.History.{History}
 use Rattle.trendline.specs.declared.Overuse.{Overuse}
-use Rattle.trendline.specs.declared.OptionOveruse.{OptionOveruse}
-use Rattle.trendline.specs.declared.OptionOveruse.TheVariants as Over
 use Rattle.trendline.specs.declared.Delays.{Delays}
 use Rattle.trendline.specs.declared.Judgement.{Judgement}
 use Rattle.trendline.specs.declared.TrendlineEstimator.{TrendlineEstimator}
@@ -61,13 +58,13 @@ pub record SoundHistory (s : ℕ) (h : History) : Type 0 where
   pub delays : First (Within (nat (10 ^ 31))) h.len h.delays
   pub order : Ascending h.len h.times
 
-abbrev pub SoundOveruse : OptionOveruse → Type 0
-SoundOveruse Over.None = Unit {0}
-SoundOveruse (Over.Some o) = o.count ≤ 2
+abbrev pub SoundOveruse : Option Overuse → Type 0
+SoundOveruse None = Unit {0}
+SoundOveruse (Some o) = o.count ≤ 2
 
-abbrev pub InstantIn : ℕ → OptionInstant → Type 0
-InstantIn n Instant.None = Unit {0}
-InstantIn n (Instant.Some t) = t ≤ n
+abbrev pub InstantIn : ℕ → Option ℕ → Type 0
+InstantIn n None = Unit {0}
+InstantIn n (Some t) = t ≤ n
 
 pub record Sound (s : ℕ) (t : TrendlineEstimator) : Type 0 where
   pub zero-time : InstantIn (s * 10 ^ 9) t.zero_time
@@ -83,11 +80,11 @@ pub record Observed (s : ℕ) (v : InterGroupDelayDelta) : Type 0 where
   pub last : v.last_remote_recv_time ≤ s * 10 ^ 9
 
 -- what an observation does to a possible overuse
-pub data OveruseStep (old : OptionOveruse) (sent : TimeDelta) : OptionOveruse → Type 0 where
+pub data OveruseStep (old : Option Overuse) (sent : TimeDelta) : Option Overuse → Type 0 where
   stays : OveruseStep old sent old
-  cleared : OveruseStep old sent Over.None
-  begins : old ≡ Over.None → OveruseStep old sent (Over.Some (record { count = 1; time_overusing = Time.div sent 2 }))
-  lasts : {o : Overuse} → old ≡ Over.Some o → OveruseStep old sent (Over.Some (record { count = min (o.count + 1) 2; time_overusing = Time.add o.time_overusing sent }))
+  cleared : OveruseStep old sent None
+  begins : old ≡ None → OveruseStep old sent (Some (record { count = 1; time_overusing = Time.div sent 2 }))
+  lasts : {o : Overuse} → old ≡ Some o → OveruseStep old sent (Some (record { count = min (o.count + 1) 2; time_overusing = Time.add o.time_overusing sent }))
 
 -- ---- the sums of delays
 -- one difference is below half a step of the floats near 10 ^ 30
@@ -159,12 +156,12 @@ module _ {s : ℕ} (few : s ≤ 10 ^ 9 + 1) {h : History} (k : SoundHistory s h)
   history-fit previous o = fit-ordered h.times h.delays k.times-length k.delays-length times-in delays-in previous o
 
 -- ---- the possible overuse
-next-step : (old : OptionOveruse) (sent : TimeDelta) → OveruseStep old sent (Over.Some (next_overuse old sent))
+next-step : (old : Option Overuse) (sent : TimeDelta) → OveruseStep old sent (Some (next_overuse old sent))
 unfolding next_overuse
-next-step Over.None sent = begins refl
-next-step (Over.Some o) sent = lasts refl
+next-step None sent = begins refl
+next-step (Some o) sent = lasts refl
 
-judge-step : (d : Delays) (old : OptionOveruse) (hypothesis : BandwidthUsage) (trend : Float) (sent : TimeDelta) → OveruseStep old sent (judge d old hypothesis trend sent).overuse
+judge-step : (d : Delays) (old : Option Overuse) (hypothesis : BandwidthUsage) (trend : Float) (sent : TimeDelta) → OveruseStep old sent (judge d old hypothesis trend sent).overuse
 unfolding judge overusing
 judge-step d old hypothesis trend sent =
     let modified = modified_trend d trend in
@@ -186,7 +183,7 @@ overuse-step t v now =
     cases (λ (w : TrendlineEstimator). OveruseStep t.overuse v.send_delta w.overuse) (eqb u.history.len 20)
     (λ e. detect-step u (linear_fit u.history.times u.history.delays u.delays.previous_trend) v.send_delta now) (λ e. stays)
 
-step-sound : {old : OptionOveruse} {sent : TimeDelta} {new' : OptionOveruse} → OveruseStep old sent new' → SoundOveruse old → SoundOveruse new'
+step-sound : {old : Option Overuse} {sent : TimeDelta} {new' : Option Overuse} → OveruseStep old sent new' → SoundOveruse old → SoundOveruse new'
 step-sound stays h = h
 step-sound cleared h = tt
 step-sound (begins e) h = omega arith
@@ -203,9 +200,9 @@ new-sound s =
       last-update = tt;
     }
 
-instant-or : (o : OptionInstant) {n other : ℕ} → InstantIn n o → other ≤ n → instant_or o other ≤ n
-instant-or Instant.None h k = k
-instant-or (Instant.Some t) h k = h
+instant-or : (o : Option ℕ) {n other : ℕ} → InstantIn n o → other ≤ n → unwrap_or o other ≤ n
+instant-or None h k = k
+instant-or (Some t) h k = h
 
 module _ {s : ℕ} (few : s ≤ 10 ^ 9 + 1) where
   to-history-sound : {t : TrendlineEstimator} {v : InterGroupDelayDelta} → Sound s t → Observed s v → Sound s (add_to_history t v)
@@ -230,7 +227,7 @@ module _ {s : ℕ} (few : s ≤ 10 ^ 9 + 1) where
           count = h.delays.count;
           accumulated = h.delays.accumulated;
           smoothed = h.delays.smoothed;
-          threshold = threshold-in d (modified_trend d trend) (saturating_duration_since now (instant_or t.last_threshold_update now)) h.delays.threshold (modified-ordered d trend (omega arith) o);
+          threshold = threshold-in d (modified_trend d trend) (saturating_duration_since now (unwrap_or t.last_threshold_update now)) h.delays.threshold (modified-ordered d trend (omega arith) o);
           trend = o;
         };
         overuse = step-sound (judge-step d t.overuse t.hypothesis trend sent) h.overuse;

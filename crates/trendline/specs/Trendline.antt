@@ -1,6 +1,7 @@
 -- src/bwe/delay/trendline.rs: the trend of the delay between groups, what it says, and the threshold that it is judged by. Window 20. Delays and times
 -- are ms, moments ns; each float operation is rounded once, and `powi(2)` is one product.
-use Rattle.std.specs.Prelude.{ℕ, zero, suc, ◌+◌, ◌/◌, min, ◌&&◌, cond, List, [], ◌∷◌, ◌++◌, ltb, eqb, pos, get_or, take, drop, replicate, Float, ◌≡◌}
+use Rattle.std.specs.Option.{unwrap_or}
+use Rattle.std.specs.Prelude.{ℕ, zero, suc, ◌+◌, ◌/◌, min, ◌&&◌, cond, List, [], ◌∷◌, ◌++◌, ltb, eqb, pos, get_or, take, drop, replicate, Float, ◌≡◌, Option, Some, None}
 use Rattle.std.specs.Float.Ieee as Ieee
 use Rattle.std.specs.Float.{nan, binary64}
 use Rattle.std.specs.Float.Ieee.{of_int, neg}
@@ -10,16 +11,13 @@ use Rattle.float_order.specs.Binary64.{sub, mul, div, lit, decimal, one, thousan
 use Rattle.float_order.specs.Interval.{floats}
 use Rattle.float.specs.Float as Float
 use Rattle.time.specs.Time as Time
-use Rattle.time.specs.Time.{instant_or, saturating_duration_since}
-use Rattle.time.specs.declared.OptionInstant.TheVariants as Instant
+use Rattle.time.specs.Time.{saturating_duration_since}
 use Rattle.time.specs.declared.TimeDelta.{TimeDelta}
 use Rattle.arrival_group.specs.declared.InterGroupDelayDelta.{InterGroupDelayDelta}
 use Rattle.bandwidth.specs.declared.BandwidthUsage.{BandwidthUsage}
 use Rattle.bandwidth.specs.declared.BandwidthUsage.TheVariants as Usage
 use Rattle.trendline.specs.declared.History.{History}
 use Rattle.trendline.specs.declared.Overuse.{Overuse}
-use Rattle.trendline.specs.declared.OptionOveruse.{OptionOveruse}
-use Rattle.trendline.specs.declared.OptionOveruse.TheVariants as Over
 use Rattle.trendline.specs.declared.Delays.{Delays}
 use Rattle.trendline.specs.declared.Judgement.{Judgement}
 use Rattle.trendline.specs.declared.Fit.{Fit}
@@ -220,33 +218,33 @@ with_trend d trend threshold' =
 
 -- ---- what the trend says
 -- a first observation assumes overuse for half of the time since the previous one; the count stops at 2
-unfoldable pub next_overuse : OptionOveruse → TimeDelta → Overuse
-next_overuse Over.None sent = record { count = 1; time_overusing = Time.div sent 2 }
-next_overuse (Over.Some o) sent = record { count = min (o.count + 1) max_overuse_count; time_overusing = Time.add o.time_overusing sent }
+unfoldable pub next_overuse : Option Overuse → TimeDelta → Overuse
+next_overuse None sent = record { count = 1; time_overusing = Time.div sent 2 }
+next_overuse (Some o) sent = record { count = min (o.count + 1) max_overuse_count; time_overusing = Time.add o.time_overusing sent }
 
 -- overuse is told once it has lasted over 10 ms and more than one observation, with a rising trend
 unfoldable pub overusing : Delays → Overuse → Float → BandwidthUsage → Judgement
 overusing d o trend hypothesis =
     cond (Time.lt (Time.positive over_use_time_threshold) o.time_overusing && ltb 1 o.count && Ieee.lt d.previous_trend trend)
-    (record { overuse = Over.None; hypothesis = Usage.Overuse })
-    (record { overuse = Over.Some o; hypothesis = hypothesis })
+    (record { overuse = None; hypothesis = Usage.Overuse })
+    (record { overuse = Some o; hypothesis = hypothesis })
 
-unfoldable pub judge : Delays → OptionOveruse → BandwidthUsage → Float → TimeDelta → Judgement
+unfoldable pub judge : Delays → Option Overuse → BandwidthUsage → Float → TimeDelta → Judgement
 judge d overuse hypothesis trend sent =
     let modified = modified_trend d trend in
     cond (Ieee.lt d.delay_threshold modified) (overusing d (next_overuse overuse sent) trend hypothesis)
-    (cond (Ieee.lt modified (neg d.delay_threshold)) (record { overuse = Over.None; hypothesis = Usage.Underuse })
-    (record { overuse = Over.None; hypothesis = Usage.Normal }))
+    (cond (Ieee.lt modified (neg d.delay_threshold)) (record { overuse = None; hypothesis = Usage.Underuse })
+    (record { overuse = None; hypothesis = Usage.Normal }))
 
 -- ---- the estimator
 abbrev pub new : TrendlineEstimator
 new =
     record {
-      zero_time = Instant.None;
+      zero_time = None;
       history = new_history;
       delays = new_delays;
-      overuse = Over.None;
-      last_threshold_update = Instant.None;
+      overuse = None;
+      last_threshold_update = None;
       hypothesis = Usage.Normal;
     }
 
@@ -260,10 +258,10 @@ time_since last zero' = mul (Time.as_secs_f64 (Time.since (Time.exact last) (Tim
 
 unfoldable pub add_to_history : TrendlineEstimator → InterGroupDelayDelta → TrendlineEstimator
 add_to_history t v =
-    let zero' = instant_or t.zero_time v.last_remote_recv_time in
+    let zero' = unwrap_or t.zero_time v.last_remote_recv_time in
     let delays = accumulate t.delays (delay_delta v) in
     record {
-      zero_time = Instant.Some zero';
+      zero_time = Some zero';
       history = add t.history (time_since v.last_remote_recv_time zero') delays.smoothed_delay;
       delays = delays;
       overuse = t.overuse;
@@ -278,7 +276,7 @@ with_judgement t j delays now =
       history = t.history;
       delays = delays;
       overuse = j.overuse;
-      last_threshold_update = Instant.Some now;
+      last_threshold_update = Some now;
       hypothesis = j.hypothesis;
     }
 
@@ -295,7 +293,7 @@ with_normal t =
 
 unfoldable pub detect : TrendlineEstimator → Float → TimeDelta → ℕ → TrendlineEstimator
 detect t trend sent now =
-    let elapsed = saturating_duration_since now (instant_or t.last_threshold_update now) in
+    let elapsed = saturating_duration_since now (unwrap_or t.last_threshold_update now) in
     cond (ltb t.delays.num_delay_variations 2) (with_normal t)
     (with_judgement t (judge t.delays t.overuse t.hypothesis trend sent)
     (with_trend t.delays trend (threshold t.delays (modified_trend t.delays trend) elapsed)) now)

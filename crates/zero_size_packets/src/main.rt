@@ -2,7 +2,7 @@
 // size 0 are refused; packets of size 1 are taken. Either way the estimate recovers. The Rust, fed the empty packets, stays at 60,000 bps.
 #![tactic(auto)]
 
-use bandwidth::{Bitrate, OptionBitrate};
+use bandwidth::{Bitrate};
 use link::{Called, Opened, Opening};
 use link_state::Link;
 use std::io;
@@ -96,7 +96,7 @@ fn report(lists: Lists, moment: u64, link: Link) -> Called {
         &sends,
         &remotes,
         &receives,
-        OptionBitrate::None,
+        None,
         moment,
     )
 }

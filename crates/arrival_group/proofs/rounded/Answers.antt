@@ -9,5 +9,5 @@ unfolding rounded saturating_add
 returns-then-ms-gt18446744073709 c = omega arith
 
 pub returns : goal.returns
-unfolding rounded
+unfolding rounded saturating_add
 returns c = cc

@@ -1,7 +1,8 @@
 -- Question 1; then a report in the order of receipt, or in any order.
+use Rattle.std.specs.Prelude.{Option}
+use Rattle.bandwidth.specs.declared.Bitrate.{Bitrate}
 use mathlib.Core.Path.{◌≡◌, sym, ap, ◌∙◌}
 use Rattle.bool_laws.specs.Bools.{both}
-use Rattle.bandwidth.specs.declared.OptionBitrate.{OptionBitrate}
 use Rattle.questions.proofs.Laws.{was-no, was-yes}
 use Rattle.questions.specs.Questions.{Report, report-of}
 use Rattle.questions.specs.declared.Refusal.TheVariants.{OutOfRange}
@@ -12,7 +13,7 @@ use Rattle.c_api.proofs.Laws.{bitrate-is, bitrate-no, call-out, code_is, code-no
 use Rattle.c_api.proofs.hornetpewter_report.Goals as goal
 
 -- the probe's result, as the contract says it
-probed : (l : Link) (r : Report) {q : OptionBitrate} → r.probe ≡ q → report l r ≡ report l (report-of r.sequences r.sizes r.sends r.remotes r.receives q r.now)
+probed : (l : Link) (r : Report) {q : Option Bitrate} → r.probe ≡ q → report l r ≡ report l (report-of r.sequences r.sizes r.sends r.remotes r.receives q r.now)
 probed l r e = ap (λ q. report l (report-of r.sequences r.sizes r.sends r.remotes r.receives q r.now)) e
 
 pub returns-then-not-in_range : goal.returns-then-not-in_range

@@ -5,8 +5,8 @@ use Rattle.arrival_group.proofs.ArrivalGroupAccumulator.accumulate_packet.Goals 
 
 pub returns-then-local_send_time-origin : goal.returns-then-local_send_time-origin
 unfolding accumulate_packet
-returns-then-local_send_time-origin c = simp (← c.instant_or-origin.ensures, lt-ltb _ _ c.if-local_send_time-origin.true)
+returns-then-local_send_time-origin c = simp (← c.unwrap_or-origin.ensures, lt-ltb _ _ c.if-local_send_time-origin.true)
 
 pub returns : goal.returns
 unfolding accumulate_packet
-returns c = simp (← c.accumulate_rounded.ensures, ← c.rounded-send.ensures, ← c.instant_or-origin.ensures, le-ltb _ _ c.if-local_send_time-origin.false)
+returns c = simp (← c.accumulate_rounded.ensures, ← c.rounded-send.ensures, ← c.unwrap_or-origin.ensures, le-ltb _ _ c.if-local_send_time-origin.false)

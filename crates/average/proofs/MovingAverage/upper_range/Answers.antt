@@ -6,10 +6,10 @@ pub returns-then-self : goal.returns-then-self
 unfolding upper_range
 returns-then-self c = simp c.if-self.true
 
-pub returns-in-Some : goal.returns-in-Some
+pub returns-in_err-self : goal.returns-in_err-self
 unfolding upper_range
-returns-in-Some c = simp (c.in-Some.is, c.if-self.false)
+returns-in_err-self c = simp (c.from_residual.ensures, c.if-self.false, c.branch-self.ensures, c.in_err-self.is)
 
-pub returns-in-None : goal.returns-in-None
+pub returns : goal.returns
 unfolding upper_range
-returns-in-None c = simp (c.in-None.is, c.if-self.false)
+returns c = simp (c.if-self.false, c.branch-self.ensures, c.in_ok-self.is)

@@ -1,15 +1,16 @@
 -- The smaller of the smoothed round trip and 25 ms.
+use Rattle.std.specs.Option.{unwrap_or}
+use Rattle.std.specs.Prelude.{Option}
 use Prim.Native.Nat.{ℕ, ◌<◌, ◌≤◌}
 use mathlib.Core.Path.{◌≡◌}
 use native.Mathlib.Omega.{arith}
 use borrow.Author.Rules.{rules}
-use Rattle.time.specs.Time.{duration_or}
-use Rattle.time.specs.declared.OptionDuration.{OptionDuration}
+use Rattle.time.specs.Time.{}
 use Rattle.control.specs.declared.DelayController.{DelayController}
 use Rattle.control.specs.Control.{get_smoothed_rtt, max_twcc_gap, update_interval, wait}
 use Rattle.control.proofs.DelayController.wait.Goals as goal
 
-module _ (c : DelayController) {d : OptionDuration} {rtt : ℕ} (e : d ≡ get_smoothed_rtt c) (f : rtt ≡ duration_or d max_twcc_gap) where
+module _ (c : DelayController) {d : Option ℕ} {rtt : ℕ} (e : d ≡ get_smoothed_rtt c) (f : rtt ≡ unwrap_or d max_twcc_gap) where
   shorter : rtt < update_interval → rtt ≡ wait c
   unfolding wait
   shorter h = rw (← e, ← f) (omega arith)

@@ -9,8 +9,8 @@ returns-in_default c = simp c.in_default.is
 
 pub returns-then-reduction_interval-saturating_duration_since : goal.returns-then-reduction_interval-saturating_duration_since
 unfolding time_to_reduce_further
-returns-then-reduction_interval-saturating_duration_since c = simp (le-leb _ _ c.if-reduction_interval-saturating_duration_since.true, ← c.saturating_duration_since.ensures, ← c.reduction_interval.ensures, ← c.duration_or-rtt.ensures, c.in-Some.is)
+returns-then-reduction_interval-saturating_duration_since c = simp (le-leb _ _ c.if-reduction_interval-saturating_duration_since.true, ← c.saturating_duration_since.ensures, ← c.reduction_interval.ensures, ← c.unwrap_or-rtt.ensures, c.in-Some.is)
 
 pub returns : goal.returns
 unfolding time_to_reduce_further
-returns c = simp (c.lt.ensures, c.mul.ensures, lt-leb _ _ c.if-reduction_interval-saturating_duration_since.false, ← c.saturating_duration_since.ensures, ← c.reduction_interval.ensures, ← c.duration_or-rtt.ensures, c.in-Some.is)
+returns c = simp (c.lt.ensures, c.mul.ensures, lt-leb _ _ c.if-reduction_interval-saturating_duration_since.false, ← c.saturating_duration_since.ensures, ← c.reduction_interval.ensures, ← c.unwrap_or-rtt.ensures, c.in-Some.is)

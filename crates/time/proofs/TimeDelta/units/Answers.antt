@@ -5,7 +5,7 @@ use lib.Signed.{le_z}
 use borrow.Author.Tests.{lt-leb}
 use Rattle.time.specs.declared.TimeDelta.{TimeDelta}
 use Rattle.time.specs.declared.TimeDelta.TheVariants.{NegativeInfinity, Negative, Positive, PositiveInfinity}
-use Rattle.time.specs.Time.{limit, saturating_mul, positive, negative, units}
+use Rattle.time.specs.Time.{limit, positive, negative, units}
 use Rattle.time.proofs.TimeDelta.units.Goals as goal
 
 abbrev most : ℕ
@@ -19,20 +19,20 @@ held finite infinity d = go (leb d limit) refl
     go true e = let h : min d most ≡ d = omega (arith, leb-true d limit e) in rw (h, e)
     go false e = rw (lt-leb (min d most) limit (omega (arith, leb-false d limit e)))
 
-upward : (z : ℤ) (ns : ℕ) → le_z (pos 0) z ≡ true → positive (saturating_mul (nat_abs z) ns) ≡ units z ns
-unfolding positive saturating_mul units
+upward : (z : ℤ) (ns : ℕ) → le_z (pos 0) z ≡ true → positive (min (nat_abs z * ns) most) ≡ units z ns
+unfolding positive units
 upward (pos n) ns p = held Positive PositiveInfinity (n * ns)
 upward (negsuc n) ns p = absurd (false≢true p)
 
-downward : (z : ℤ) (ns : ℕ) → le_z (pos 0) z ≡ false → negative (saturating_mul (nat_abs z) ns) ≡ units z ns
-unfolding negative saturating_mul units
+downward : (z : ℤ) (ns : ℕ) → le_z (pos 0) z ≡ false → negative (min (nat_abs z * ns) most) ≡ units z ns
+unfolding negative units
 downward (pos n) ns p = absurd (omega (arith, leb-false 0 n p))
 downward (negsuc n) ns p = held Negative NegativeInfinity (suc n * ns)
 
 pub returns-then-number-ge0 : goal.returns-then-number-ge0
 returns-then-number-ge0 c = let a = to_z-of_z c.ranges.number in
-    rw (c.from.ensures, c.saturating_mul-duration.ensures, c.unsigned_abs.ensures, a) (upward _ _ (rw a at c.if-number-ge0.true))
+    rw (c.from.ensures, c.saturating_mul-duration.ensures, c.unsigned_abs.ensures.value, a) (upward _ _ (rw a at c.if-number-ge0.true))
 
 pub returns : goal.returns
 returns c = let a = to_z-of_z c.ranges.number in
-    rw (c.minus.ensures, c.saturating_mul-duration.ensures, c.unsigned_abs.ensures, a) (downward _ _ (rw a at c.if-number-ge0.false))
+    rw (c.minus.ensures, c.saturating_mul-duration.ensures, c.unsigned_abs.ensures.value, a) (downward _ _ (rw a at c.if-number-ge0.false))

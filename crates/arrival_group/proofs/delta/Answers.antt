@@ -1,6 +1,6 @@
 -- There is a delta where there is a previous group.
 use Rattle.arrival_group.specs.ArrivalGroup.{delta}
-use Rattle.arrival_group.proofs.OptionGroup.delta.Goals as goal
+use Rattle.arrival_group.proofs.delta.Goals as goal
 
 pub returns-in-None : goal.returns-in-None
 unfolding delta

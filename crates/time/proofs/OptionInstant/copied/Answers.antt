@@ -1,5 +1,0 @@
--- `OptionInstant::copied` meets its contract: each arm puts its variant together again.
-use Rattle.time.proofs.OptionInstant.copied.Goals as goal
-
-pub returns-in-Some : goal.returns-in-Some
-returns-in-Some c = cc
