@@ -34,8 +34,8 @@ number Refusal.BadProbe = 8
 number Refusal.TooManyBytes = 9
 
 -- the number of the question that turned a call down, or 0
-abbrev pub number_or0 : Result (Unit {0}) Refusal → ℕ
-number_or0 (Ok u) = 0
+abbrev pub number_or0 : {T : Type 0} → Result T Refusal → ℕ
+number_or0 (Ok x) = 0
 number_or0 (Err q) = number q
 
 -- what a question says that is answered with yes or no

@@ -40,6 +40,13 @@ impl From<Refusal> for u64 {
     }
 }
 
+// The number of the question that turned a call down, or 0.
+pub fn number<T: Drop>(answer: Result<T, Refusal>) -> u64
+    ensures { result ≡ Questions.number_or0 answer }
+{
+    answer.err().map_or(0, u64::from)
+}
+
 // A report: packet i has its sequence, size, send, remote and receive instant at place i of five lists; a probe's result, and the moment.
 #[derive(Clone, Copy)]
 pub struct Report<'a> {
