@@ -21,7 +21,7 @@ use Rattle.questions.specs.Questions.{Report, bytes_in, first_no, lists_in, numb
 use Rattle.questions.specs.Laws.{first_of, first-append, first-of, lengths, number-above, report-numbered}
 use Rattle.questions.specs.declared.Refusal.{Refusal}
 use Rattle.questions.specs.declared.OptionRefusal.{OptionRefusal}
-use Rattle.questions.specs.declared.OptionRefusal.TheVariants as Option
+use Rattle.questions.specs.declared.OptionRefusal.TheVariants as Asked
 use Rattle.link.specs.Link.{
   Judgement,
   acknowledge,
@@ -159,7 +159,7 @@ module _ (a : AckedBitrateEstimator) (r : Report) where
   pub judged-first : {j : Judged} {q : OptionRefusal} → judged j ≡ judge_report a r → j.refusal ≡ q → first_no_in_order a r ≡ number_or0 q
   judged-first e h = sym (judged-number a r) ∙ sym (ap (λ (g : Judgement). g.number) e) ∙ ap number_or0 h
 
-  pub judged-acked : {j : Judged} → judged j ≡ judge_report a r → j.refusal ≡ Option.None → j.acked ≡ acknowledge a r.remotes r.sizes
+  pub judged-acked : {j : Judged} → judged j ≡ judge_report a r → j.refusal ≡ Asked.None → j.acked ≡ acknowledge a r.remotes r.sizes
   judged-acked e h = ap (λ (g : Judgement). g.acked) e ∙ judged-taken a r (judged-first e h)
 
 -- ---- a timeout by its first no

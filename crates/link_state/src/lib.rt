@@ -6,13 +6,13 @@ ghost use Rattle.std.specs.Float.Ieee as Ieee;
 ghost use Rattle.link_state.specs.State as State;
 
 use acked_bitrate_estimator::AckedBitrateEstimator;
-use arrival_group::{ArrivalGroupAccumulator};
+use arrival_group::{ArrivalGroupAccumulator, ArrivalGroup};
 use average::{MovingAverage};
 use bandwidth::{Bitrate, DataSize};
 use control::DelayController;
 use rate_control::RateControl;
 use time::{TimeDelta};
-use trendline::{Delays, History, TrendlineEstimator};
+use trendline::{Delays, History, TrendlineEstimator, Overuse};
 
 #[derive(Clone, Copy)]
 pub struct Link {
