@@ -49,7 +49,7 @@ module _ {b question : Bool} (q : Refusal) (is : b ≡ question) where
   unfolding answer
   asked-last x = rw (x, is) (go question)
     where
-      go : (t : Bool) → number_or0 (cond t (Ok tt) (Err q)) ≡ cond t 0 (number q)
+      go : (t : Bool) → number_or0 {T = Unit {0}} (cond t (Ok tt) (Err q)) ≡ cond t 0 (number q)
       go true = refl
       go false = refl
 
