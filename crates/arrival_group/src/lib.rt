@@ -1,7 +1,7 @@
 // src/bwe/delay/arrival_group.rs: packets sent together, and the delays between such groups. Group size and sequence numbers reach no answer.
 #![tactic(auto)]
 
-ghost use Rattle.std.specs.Prelude.{◌≡◌, max};
+ghost use Rattle.std.specs.Prelude.{◌≡◌};
 ghost use Rattle.arrival_group.specs.ArrivalGroup as Group;
 
 use time::{TimeDelta, Timestamp};
@@ -58,21 +58,11 @@ pub struct Accumulated {
     pub delta: Option<InterGroupDelayDelta>,
 }
 
-// The later of two instants.
-fn later(a: u64, b: u64) -> u64
-    ensures { result ≡ max a b }
-{
-    if a < b {
-        return b;
-    }
-    a
-}
-
 // Rust's `Timestamp::from(later) - earlier`.
 fn between(later: u64, earlier: u64) -> TimeDelta
     ensures { result ≡ Group.between later earlier }
 {
-    Timestamp::from(later).since_instant(earlier)
+    Timestamp::from(later) - Timestamp::from(earlier)
 }
 
 // A send instant to the nearest ms from the origin, halves up; past the end of u64, that end.
@@ -90,11 +80,9 @@ fn rounded(origin: u64, elapsed: u64) -> u64
 fn in_burst(send_time_delta: TimeDelta, arrival_time_delta: TimeDelta, span: u64) -> bool
     ensures { result ≡ Group.in_burst send_time_delta arrival_time_delta span }
 {
-    if arrival_time_delta.le(TimeDelta::from(BURST_TIME_INTERVAL)) {
-        let propagation_delta = arrival_time_delta.sub(send_time_delta);
-        return propagation_delta.lt(TimeDelta::ZERO) & (span < MAX_BURST_DURATION);
-    }
-    false
+    arrival_time_delta <= TimeDelta::from(BURST_TIME_INTERVAL)
+        && arrival_time_delta - send_time_delta < TimeDelta::ZERO
+        && span < MAX_BURST_DURATION
 }
 
 impl ArrivalGroup {
@@ -118,16 +106,16 @@ impl ArrivalGroup {
         if local_send_time < first {
             return Belongs::Skipped;
         }
-        let first_send_delta = time::saturating_duration_since(local_send_time, first);
+        let first_send_delta = local_send_time.saturating_sub(first);
         if first_send_delta <= SEND_TIME_GROUP_LENGTH {
             return Belongs::Yes;
         }
         let send_time_delta = between(local_send_time, self.last_local_send_time);
-        if send_time_delta.eq(TimeDelta::ZERO) {
+        if send_time_delta == TimeDelta::ZERO {
             return Belongs::Yes;
         }
         let arrival_time_delta = between(remote_recv_time, self.last_remote_recv_time);
-        let span = time::saturating_duration_since(remote_recv_time, self.first_remote_recv_time);
+        let span = remote_recv_time.saturating_sub(self.first_remote_recv_time);
         if in_burst(send_time_delta, arrival_time_delta, span) {
             return Belongs::Yes;
         }
@@ -135,14 +123,15 @@ impl ArrivalGroup {
     }
 
     // The group with a packet of its own.
+    #[tactic(auto, unfolding(crate::specs::ArrivalGroup::with_packet))]
     fn with_packet(self, local_send_time: u64, remote_recv_time: u64) -> Self
         ensures { result ≡ Group.with_packet self local_send_time remote_recv_time }
     {
         Self {
             first_local_send_time: self.first_local_send_time,
             first_remote_recv_time: self.first_remote_recv_time,
-            last_local_send_time: later(self.last_local_send_time, local_send_time),
-            last_remote_recv_time: later(self.last_remote_recv_time, remote_recv_time),
+            last_local_send_time: self.last_local_send_time.max(local_send_time),
+            last_remote_recv_time: self.last_remote_recv_time.max(remote_recv_time),
         }
     }
 
@@ -231,12 +220,7 @@ impl ArrivalGroupAccumulator {
         let previous = self.previous_group;
         let current_group = self.current_group;
         let Some(current) = current_group else {
-            return Accumulated::new(
-                origin,
-                previous,
-                ArrivalGroup::new(send, remote),
-                None,
-            );
+            return Accumulated::new(origin, previous, ArrivalGroup::new(send, remote), None);
         };
         let added = current.add_packet(send, remote);
         if added.need_new_group {

@@ -2,11 +2,11 @@
 // consulted and is left out, and so is its copy of the last estimate, which is always the rate control's.
 #![tactic(auto)]
 
-ghost use Rattle.std.specs.Prelude.{◌≡◌, min};
+ghost use Rattle.std.specs.Prelude.{◌≡◌};
 ghost use Rattle.control.specs.Control as Control;
 
-use arrival_group::{ArrivalGroupAccumulator};
-use average::{MovingAverage};
+use arrival_group::ArrivalGroupAccumulator;
+use average::MovingAverage;
 use bandwidth::{BandwidthUsage, Bitrate};
 use rate_control::{RateControl, Signal};
 use trendline::TrendlineEstimator;
@@ -42,26 +42,14 @@ struct Timed {
     next_timeout: u64,
 }
 
-fn shorter(a: usize, b: usize) -> usize
-    ensures { result ≡ min a b }
-{
-    if a < b {
-        return a;
-    }
-    b
-}
-
 // The greatest round trip of a report's packets, where there is one; what one list has more is left out.
 fn max_rtt(local_send_times: &[u64], local_recv_times: &[u64]) -> Option<u64>
     ensures { result ≡ Control.max_rtt local_send_times.now local_recv_times.now }
 {
     let mut max_rtt = None;
-    let n = shorter(local_send_times.len(), local_recv_times.len());
-    let mut i = 0;
-    while i < n {
+    for i in 0..local_send_times.len().min(local_recv_times.len()) {
         let rtt = time::saturating_duration_since(local_recv_times[i], local_send_times[i]);
         max_rtt = time::longest(max_rtt, rtt);
-        i += 1;
     }
     max_rtt
 }
@@ -73,21 +61,15 @@ impl DelayDetector {
     {
         let mut accumulator = self.arrival_group_accumulator;
         let mut trendline = self.trendline_estimator;
-        let n = shorter(local_send_times.len(), remote_recv_times.len());
-        let mut i = 0;
-        while i < n {
-            let local_send_time = local_send_times[i];
-            let done = accumulator.accumulate_packet(local_send_time, remote_recv_times[i]);
-            let after = done.accumulator;
-            let delta = done.delta;
-            accumulator = after;
-            if let Some(variation) = delta {
+        for i in 0..local_send_times.len().min(remote_recv_times.len()) {
+            let done = accumulator.accumulate_packet(local_send_times[i], remote_recv_times[i]);
+            accumulator = done.accumulator;
+            if let Some(variation) = done.delta {
                 trendline = trendline.add_delay_observation(
                     variation,
                     variation.last_remote_recv_time,
                 );
             }
-            i += 1;
         }
         Self {
             arrival_group_accumulator: accumulator,
@@ -102,19 +84,15 @@ impl DelayController {
     pub fn new(initial_bitrate: Bitrate) -> Self
         ensures { result ≡ Control.new initial_bitrate }
     {
-        let arrival_group_accumulator = ArrivalGroupAccumulator::new();
-        let trendline_estimator = TrendlineEstimator::new();
-        let rate_control = RateControl::new(
-            initial_bitrate,
-            Bitrate::MIN_ESTIMATE,
-            Bitrate::MAX_ESTIMATE,
-        );
-        let smoothed_rtt = MovingAverage::new(Self::RTT_SMOOTHING_FACTOR);
         Self {
-            arrival_group_accumulator,
-            trendline_estimator,
-            rate_control,
-            smoothed_rtt,
+            arrival_group_accumulator: ArrivalGroupAccumulator::new(),
+            trendline_estimator: TrendlineEstimator::new(),
+            rate_control: RateControl::new(
+                initial_bitrate,
+                Bitrate::MIN_ESTIMATE,
+                Bitrate::MAX_ESTIMATE,
+            ),
+            smoothed_rtt: MovingAverage::new(Self::RTT_SMOOTHING_FACTOR),
             next_timeout: 0,
             last_twcc_report: None,
         }
@@ -129,33 +107,31 @@ impl DelayController {
     pub fn last_estimate(self) -> Bitrate
         ensures { result ≡ self.rate_control.estimated_bitrate }
     {
-        let rate_control = self.rate_control;
-        rate_control.estimated_bitrate()
+        self.rate_control.estimated_bitrate()
     }
 
     pub fn hypothesis(self) -> BandwidthUsage
         ensures { result ≡ self.trendline_estimator.hypothesis }
     {
-        let trendline = self.trendline_estimator;
-        trendline.hypothesis()
+        self.trendline_estimator.hypothesis()
     }
 
     // The smoothed round trip in ns: the nearest, ties to even.
     pub fn get_smoothed_rtt(self) -> Option<u64>
         ensures { result ≡ Control.get_smoothed_rtt self }
     {
-        let smoothed_rtt = self.smoothed_rtt;
-        rtt_of(smoothed_rtt)
+        rtt_of(self.smoothed_rtt)
     }
 
     // The rate control after an update, and the next timeout.
     fn with_rate(self, rate_control: RateControl, next_timeout: u64) -> Self
         ensures { result ≡ Control.with_rate self rate_control next_timeout }
     {
-        let mut next = self;
-        next.rate_control = rate_control;
-        next.next_timeout = next_timeout;
-        next
+        Self {
+            rate_control,
+            next_timeout,
+            ..self
+        }
     }
 
     // The smoothed round trip, at most 25 ms.
@@ -163,18 +139,14 @@ impl DelayController {
         ensures { result ≡ Control.wait self }
     {
         let rtt = self.get_smoothed_rtt().unwrap_or(MAX_TWCC_GAP);
-        if rtt < UPDATE_INTERVAL {
-            return rtt;
-        }
-        UPDATE_INTERVAL
+        rtt.min(UPDATE_INTERVAL)
     }
 
     // Whether the hypothesis is not too old: at most twice the smoothed round trip, and at most 50 ms.
     fn trendline_hypothesis_valid(self, now: u64) -> bool
         ensures { result ≡ Control.trendline_hypothesis_valid self now }
     {
-        let last_twcc_report = self.last_twcc_report;
-        let Some(last) = last_twcc_report else {
+        let Some(last) = self.last_twcc_report else {
             return false;
         };
         time::saturating_duration_since(now, last) <= 2 * self.wait()
@@ -192,29 +164,24 @@ impl DelayController {
     ) -> Self
         ensures { result ≡ Control.update self local_send_times.now remote_recv_times.now local_recv_times.now acked_bitrate probe_bitrate moment }
     {
-        let arrival_group_accumulator = self.arrival_group_accumulator;
-        let trendline_estimator = self.trendline_estimator;
         let detector = DelayDetector {
-            arrival_group_accumulator,
-            trendline_estimator,
+            arrival_group_accumulator: self.arrival_group_accumulator,
+            trendline_estimator: self.trendline_estimator,
         };
         let detector = detector.add_packets(local_send_times, remote_recv_times);
-        let arrival_group_accumulator = detector.arrival_group_accumulator;
-        let trendline_estimator = detector.trendline_estimator;
-        let smoothed = self.smoothed_rtt;
-        let smoothed_rtt = update_rtt(smoothed, max_rtt(local_send_times, local_recv_times));
-        let rate = self.rate_control;
+        let max_rtt = max_rtt(local_send_times, local_recv_times);
+        let smoothed_rtt = update_rtt(self.smoothed_rtt, max_rtt);
         let rate_control = rate_from(
             probe_bitrate,
             acked_bitrate,
-            rate,
-            trendline_estimator.hypothesis(),
+            self.rate_control,
+            detector.trendline_estimator.hypothesis(),
             smoothed_rtt,
             moment,
         );
         Self {
-            arrival_group_accumulator,
-            trendline_estimator,
+            arrival_group_accumulator: detector.arrival_group_accumulator,
+            trendline_estimator: detector.trendline_estimator,
             rate_control,
             smoothed_rtt,
             next_timeout: moment.saturating_add(UPDATE_INTERVAL),
@@ -226,23 +193,21 @@ impl DelayController {
     fn timed(self, acked_bitrate: Option<Bitrate>, now: u64) -> Timed
         ensures { Control.with_rate self result.rate_control result.next_timeout ≡ Control.handle_timeout self acked_bitrate now }
     {
-        let rate_control = self.rate_control;
-        let smoothed_rtt = self.smoothed_rtt;
         if self.trendline_hypothesis_valid(now) {
             return Timed {
                 rate_control: rate_from(
                     None,
                     acked_bitrate,
-                    rate_control,
+                    self.rate_control,
                     self.hypothesis(),
-                    smoothed_rtt,
+                    self.smoothed_rtt,
                     now,
                 ),
                 next_timeout: now.saturating_add(UPDATE_INTERVAL),
             };
         }
         Timed {
-            rate_control,
+            rate_control: self.rate_control,
             next_timeout: now.saturating_add(self.wait()),
         }
     }
@@ -251,8 +216,7 @@ impl DelayController {
         ensures { result ≡ Control.handle_timeout self acked_bitrate now }
     {
         let timed = self.timed(acked_bitrate, now);
-        let rate_control = timed.rate_control;
-        self.with_rate(rate_control, timed.next_timeout)
+        self.with_rate(timed.rate_control, timed.next_timeout)
     }
 }
 
@@ -260,11 +224,7 @@ impl DelayController {
 fn rtt_of(smoothed_rtt: MovingAverage) -> Option<u64>
     ensures { result ≡ Control.rtt_of smoothed_rtt.average }
 {
-    let average = smoothed_rtt.get();
-    match average {
-        None => None,
-        Some(secs) => Some(seconds::from_secs_f64(secs)),
-    }
+    Some(seconds::from_secs_f64(smoothed_rtt.get()?))
 }
 
 // A probe's result is applied as it is; else the observed rate, where there is one, goes to the rate control.

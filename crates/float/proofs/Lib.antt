@@ -1,3 +1,1 @@
-pub mod Magnitude
-pub mod Ceiling
-pub mod Cast
+pub mod Library

@@ -6,22 +6,15 @@ ghost use Rattle.std.specs.Float.{binary64};
 ghost use Rattle.std.specs.Float.Ieee.{of_bits, to_bits};
 
 // The float whose bits are n. Every pattern of a NaN gives the one NaN.
-#[tactic(auto, using(crate::proofs::Patterns::nan_pattern))]
 pub fn from_bits(n: u64) -> f64
     ensures { result ≡ of_bits binary64 n }
 {
-    if 0x7ff0_0000_0000_0000 < n % 0x8000_0000_0000_0000 {
-        return 0.0 / 0.0;
-    }
-    f64::from_bits(n)
+    std::num::f64_from_bits_with_nan(n)
 }
 
 // The bits of x. A NaN gives 0x7ff8_0000_0000_0000.
 pub fn to_bits(x: f64) -> u64
     ensures { result ≡ to_bits binary64 x }
 {
-    if x != x {
-        return 0x7ff8_0000_0000_0000;
-    }
-    f64::to_bits(x)
+    std::num::f64_to_bits_with_nan(x)
 }

@@ -4,7 +4,7 @@
 ghost use Rattle.std.specs.Prelude.{◌≡◌};
 ghost use Rattle.rate_control.specs.RateControl as Rate;
 
-use average::{MovingAverage};
+use average::MovingAverage;
 use bandwidth::{BandwidthUsage, Bitrate};
 
 const DEFAULT_BACKOFF_TIME: u64 = 100_000_000;
@@ -36,10 +36,10 @@ pub struct RateControl {
     pub last_rtt: Option<u64>,
 }
 
-impl Signal {
-    pub fn from(usage: BandwidthUsage) -> Self
-        ensures { result ≡ Rate.signal usage }
-    {
+impl From<BandwidthUsage> for Signal {
+    ghost from_gives = { λ usage signal. signal ≡ Rate.signal usage };
+
+    fn from(usage: BandwidthUsage) -> Self {
         match usage {
             BandwidthUsage::Overuse => Signal::Overuse,
             BandwidthUsage::Normal => Signal::Normal,
@@ -68,13 +68,7 @@ impl State {
 fn reduction_interval(rtt: u64) -> u64
     ensures { result ≡ Rate.reduction_interval rtt }
 {
-    if rtt < 10_000_000 {
-        return 10_000_000;
-    }
-    if 200_000_000 < rtt {
-        return 200_000_000;
-    }
-    rtt
+    rtt.clamp(10_000_000, 200_000_000)
 }
 
 // Seconds of a round trip and 100 ms, which are added first: in whole seconds and the rest, so that no sum is too large.
@@ -90,28 +84,20 @@ fn response_time(rtt: u64) -> f64
 fn reset_below(average: MovingAverage, value: f64) -> MovingAverage
     ensures { result ≡ Rate.reset_below average value }
 {
-    let range = average.lower_range(3.0);
-    let Some(lower) = range else {
-        return average;
-    };
-    if value < lower {
-        return average.reset();
+    match average.lower_range(3.0) {
+        Some(lower) if value < lower => average.reset(),
+        _ => average,
     }
-    average
 }
 
 // The average, anew where a value lies above its range.
 fn reset_above(average: MovingAverage, value: f64) -> MovingAverage
     ensures { result ≡ Rate.reset_above average value }
 {
-    let range = average.upper_range(3.0);
-    let Some(upper) = range else {
-        return average;
-    };
-    if value > upper {
-        return average.reset();
+    match average.upper_range(3.0) {
+        Some(upper) if value > upper => average.reset(),
+        _ => average,
     }
-    average
 }
 
 impl RateControl {
@@ -124,16 +110,13 @@ impl RateControl {
     pub fn new(start_bitrate: Bitrate, min_bitrate: Bitrate, max_bitrate: Bitrate) -> Self
         ensures { result ≡ Rate.new start_bitrate min_bitrate max_bitrate }
     {
-        let averaged_observed_bitrate = MovingAverage::new(
-            Self::OBSERVED_BIT_RATE_SMOOTHING_FACTOR,
-        );
         Self {
             state: State::Increase,
             estimated_bitrate: start_bitrate,
             min_bitrate,
             max_bitrate,
             last_observed_bitrate: None,
-            averaged_observed_bitrate,
+            averaged_observed_bitrate: MovingAverage::new(Self::OBSERVED_BIT_RATE_SMOOTHING_FACTOR),
             last_estimate_update: None,
             last_rtt: None,
         }
@@ -142,58 +125,32 @@ impl RateControl {
     pub fn estimated_bitrate(self) -> Bitrate
         ensures { result ≡ self.estimated_bitrate }
     {
-        let b = self.estimated_bitrate;
-        b
+        self.estimated_bitrate
     }
 
-    fn with_average(mut self, average: MovingAverage) -> Self
-        ensures { result ≡ Rate.with_average self average }
+    fn with_average(self, averaged_observed_bitrate: MovingAverage) -> Self
+        ensures { result ≡ Rate.with_average self averaged_observed_bitrate }
     {
-        self.averaged_observed_bitrate = average;
-        self
+        Self {
+            averaged_observed_bitrate,
+            ..self
+        }
     }
 
     fn with_state(self, state: State) -> Self
         ensures { result ≡ Rate.with_state self state }
     {
-        let estimated_bitrate = self.estimated_bitrate;
-        let min_bitrate = self.min_bitrate;
-        let max_bitrate = self.max_bitrate;
-        let last_observed_bitrate = self.last_observed_bitrate;
-        let averaged_observed_bitrate = self.averaged_observed_bitrate;
-        let last_estimate_update = self.last_estimate_update;
-        let last_rtt = self.last_rtt;
-        Self {
-            state,
-            estimated_bitrate,
-            min_bitrate,
-            max_bitrate,
-            last_observed_bitrate,
-            averaged_observed_bitrate,
-            last_estimate_update,
-            last_rtt,
-        }
+        Self { state, ..self }
     }
 
     // The estimate as it is given, and when.
     fn with_estimate(self, estimated_bitrate: Bitrate, now: u64) -> Self
         ensures { result ≡ Rate.with_estimate self estimated_bitrate now }
     {
-        let state = self.state;
-        let min_bitrate = self.min_bitrate;
-        let max_bitrate = self.max_bitrate;
-        let last_observed_bitrate = self.last_observed_bitrate;
-        let averaged_observed_bitrate = self.averaged_observed_bitrate;
-        let last_rtt = self.last_rtt;
         Self {
-            state,
             estimated_bitrate,
-            min_bitrate,
-            max_bitrate,
-            last_observed_bitrate,
-            averaged_observed_bitrate,
             last_estimate_update: Some(now),
-            last_rtt,
+            ..self
         }
     }
 
@@ -201,60 +158,44 @@ impl RateControl {
     fn with_inputs(self, signal: Signal, observed_bitrate: Bitrate, rtt: Option<u64>) -> Self
         ensures { result ≡ Rate.with_inputs self signal observed_bitrate rtt }
     {
-        let before = self.state;
-        let estimated_bitrate = self.estimated_bitrate;
-        let min_bitrate = self.min_bitrate;
-        let max_bitrate = self.max_bitrate;
-        let averaged_observed_bitrate = self.averaged_observed_bitrate;
-        let last_estimate_update = self.last_estimate_update;
-        let last = self.last_rtt;
-        let state = before.transition(signal);
         Self {
-            state,
-            estimated_bitrate,
-            min_bitrate,
-            max_bitrate,
+            state: self.state.transition(signal),
             last_observed_bitrate: Some(observed_bitrate),
-            averaged_observed_bitrate,
-            last_estimate_update,
-            last_rtt: rtt.or(last),
+            last_rtt: rtt.or(self.last_rtt),
+            ..self
         }
     }
 
     fn update_observed_bitrate(self, observed_bitrate: Bitrate) -> Self
         ensures { result ≡ Rate.update_observed_bitrate self observed_bitrate }
     {
-        let average = self.averaged_observed_bitrate;
         let observed = observed_bitrate.as_f64();
-        self.with_average(reset_below(average, observed).update(observed))
+        let average = reset_below(self.averaged_observed_bitrate, observed);
+        self.with_average(average.update(observed))
     }
 
     // Whether the estimate may be reduced again: a round trip after the last change, or at once where the observed rate is below half of it.
     fn time_to_reduce_further(self, now: u64, observed_bitrate: Bitrate) -> bool
         ensures { result ≡ Rate.time_to_reduce_further self now observed_bitrate }
     {
-        let last_estimate_update = self.last_estimate_update;
-        let Some(last_change) = last_estimate_update else {
+        let Some(last_change) = self.last_estimate_update else {
             return true; // no change yet
         };
-        let last_rtt = self.last_rtt;
-        let rtt = last_rtt.unwrap_or(DEFAULT_BACKOFF_TIME);
+        let rtt = self.last_rtt.unwrap_or(DEFAULT_BACKOFF_TIME);
         if reduction_interval(rtt) <= time::saturating_duration_since(now, last_change) {
             return true;
         }
-        let estimated_bitrate = self.estimated_bitrate;
-        observed_bitrate.lt(estimated_bitrate.mul(0.5))
+        observed_bitrate.lt(self.estimated_bitrate.mul(0.5))
     }
 
     fn is_near_convergence(self) -> bool
         ensures { result ≡ Rate.is_near_convergence self }
     {
-        let last_observed_bitrate = self.last_observed_bitrate;
-        let Some(observed) = last_observed_bitrate else {
+        let Some(observed) = self.last_observed_bitrate else {
             return false;
         };
-        let average = self.averaged_observed_bitrate;
-        average.within_std(observed.as_f64(), 3.0)
+        self.averaged_observed_bitrate
+            .within_std(observed.as_f64(), 3.0)
     }
 
     // Bits of a packet of a frame, of 30 frames a second.
@@ -269,8 +210,7 @@ impl RateControl {
     fn additive_increase(self, since_last_update: u64) -> f64
         ensures { result ≡ Rate.additive_increase self since_last_update }
     {
-        let last_rtt = self.last_rtt;
-        let response_time = response_time(last_rtt.unwrap_or(0));
+        let response_time = response_time(self.last_rtt.unwrap_or(0));
         let alpha = 0.5 * float::min(seconds::as_secs_f64(since_last_update) / response_time, 1.0);
         let size = self.estimated_packet_size();
         self.estimated_bitrate.0 + float::max(alpha * size, 1000.0)
@@ -296,9 +236,7 @@ impl RateControl {
     fn update_estimate(self, bitrate: Bitrate, now: u64) -> Self
         ensures { result ≡ Rate.update_estimate self bitrate now }
     {
-        let min_bitrate = self.min_bitrate;
-        let max_bitrate = self.max_bitrate;
-        self.with_estimate(bitrate.clamp(min_bitrate, max_bitrate), now)
+        self.with_estimate(bitrate.clamp(self.min_bitrate, self.max_bitrate), now)
     }
 
     fn increase(self, observed_bitrate: Bitrate, now: u64) -> Self
@@ -310,10 +248,9 @@ impl RateControl {
         if estimated_bitrate.as_f64() >= increase_limit {
             return self.with_estimate(estimated_bitrate, now);
         }
-        let last = self.last_estimate_update;
-        let since = time::saturating_duration_since(now, last.unwrap_or(now));
-        let average = self.averaged_observed_bitrate;
-        let next = self.with_average(reset_above(average, observed));
+        let last = self.last_estimate_update.unwrap_or(now);
+        let since = time::saturating_duration_since(now, last);
+        let next = self.with_average(reset_above(self.averaged_observed_bitrate, observed));
         let max = observed * Self::MAX_ESTIMATE_RATIO;
         let new_estimate = float::min(float::min(max, next.raised(since)), increase_limit);
         next.update_estimate(Bitrate(new_estimate), now)
@@ -348,8 +285,7 @@ impl RateControl {
         ensures { result ≡ Rate.update self signal observed_bitrate rtt now }
     {
         let next = self.with_inputs(signal, observed_bitrate, rtt);
-        let state = next.state;
-        match state {
+        match next.state {
             State::Increase => next.increase(observed_bitrate, now),
             State::Decrease => {
                 let counted = next.update_observed_bitrate(observed_bitrate);

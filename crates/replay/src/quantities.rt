@@ -2,10 +2,11 @@
 use crate::numbers::{delta, delta_ns, delta_tag, rate, rate_bits};
 use acked_bitrate_estimator::AckedBitrateEstimator;
 use arrival_group::{Accumulated, ArrivalGroupAccumulator};
-use average::{MovingAverage};
+use average::MovingAverage;
 use bandwidth::{Bitrate, DataSize};
 use cases::Case;
-use time::{Ordering, TimeDelta, Timestamp};
+use std::cmp::Ordering;
+use time::{TimeDelta, Timestamp};
 
 fn delta_words(d: TimeDelta) -> [u64; 6] {
     [delta_tag(d), delta_ns(d), 0, 0, 0, 0]
@@ -43,10 +44,10 @@ fn size(n: u64) -> DataSize {
 
 fn compare(a: TimeDelta, b: TimeDelta) -> [u64; 6] {
     [
-        order_number(a.cmp(b)),
-        a.eq(b) as u64,
-        a.lt(b) as u64,
-        a.le(b) as u64,
+        order_number(a.cmp(&b)),
+        (a == b) as u64,
+        (a < b) as u64,
+        (a <= b) as u64,
         0,
         0,
     ]
@@ -54,50 +55,50 @@ fn compare(a: TimeDelta, b: TimeDelta) -> [u64; 6] {
 
 fn stamps(op: u64, s: Timestamp, b: TimeDelta, t: Timestamp, n: u64) -> [u64; 6] {
     if op == 6 {
-        return stamp_words(s.add(b));
+        return stamp_words(s + b);
     }
     if op == 7 {
-        return stamp_words(s.sub(b));
+        return stamp_words(s - b);
     }
     if op == 8 {
-        return delta_words(s.since(t));
+        return delta_words(s - t);
     }
     if op == 9 {
-        return [order_number(s.cmp(t)), s.is_exact() as u64, 0, 0, 0, 0];
+        return [order_number(s.cmp(&t)), s.is_exact() as u64, 0, 0, 0, 0];
     }
     if op == 10 {
-        return stamp_words(s.add_duration(n));
+        return stamp_words(s + n);
     }
     if op == 11 {
-        return stamp_words(s.sub_duration(n));
+        return stamp_words(s - n);
     }
-    delta_words(s.since_instant(n))
+    delta_words(s - Timestamp::from(n))
 }
 
 fn deltas(op: u64, a: TimeDelta, b: TimeDelta, n: u64) -> [u64; 6] {
     if op == 1 {
-        return delta_words(a.add(b));
+        return delta_words(a + b);
     }
     if op == 2 {
-        return delta_words(a.sub(b));
+        return delta_words(a - b);
     }
     if op == 3 {
         return compare(a, b);
     }
     if op == 4 {
-        return delta_words(a.div((n % 0x1_0000_0000) as u32));
+        return delta_words(a / (n % 0x1_0000_0000) as u32);
     }
     if op == 5 {
         return [float_bits::to_bits(a.as_secs_f64()), 0, 0, 0, 0, 0];
     }
     if op == 13 {
-        return [rate_bits(time::rate(size(n), a)), 0, 0, 0, 0, 0];
+        return [rate_bits(size(n) / a), 0, 0, 0, 0, 0];
     }
-    let order = order_number(a.cmp_duration(n));
+    let duration = TimeDelta::from(n);
     [
-        a.eq_duration(n) as u64,
-        (order == 0) as u64,
-        (order < 2) as u64,
+        (a == duration) as u64,
+        (a < duration) as u64,
+        (a <= duration) as u64,
         0,
         0,
         0,

@@ -1,2 +1,1 @@
-pub mod Closest
-pub mod Fields
+pub mod Ends

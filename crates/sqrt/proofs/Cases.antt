@@ -1,10 +1,9 @@
 -- The tests of `sqrt` and `is_sqrt` tell the kinds of floats apart: a NaN, a zero, what is below zero, infinity, and what is positive and finite.
 use Rattle.std.proofs.Common.{◌≡◌, ℕ, zero, suc, ◌+◌, ◌*◌, ◌^◌, ◌<◌, Bool, true, false, not, T, eqb, ℤ, pos, sym, refl, ap, ◌∙◌, subst, mul-pos, zero-mul, arith, eqb→eq, ltb→lt, T_not}
-use lib.Ieee.{Float, nan, inf, fin, binary64, up, down, div, of_bits, to_bits, fits, is_nan, eq, lt, le, ne}
+use lib.Ieee.{Float, nan, inf, fin, binary64, up, down, of_bits, to_bits, fits, is_nan, eq, lt, le}
 use lib.Ieee.Fits.{eq→eqb, up_pos}
 use lib.Ieee.Bits.{of_bits-to_bits}
-use lib.Ieee.Compare.{differs_from_itself}
-use Rattle.float_order.specs.Order.{is_true, is_false, no-nan-ordered, ne-self, lt-left→le}
+use Rattle.float_order.specs.Order.{is_true, is_false, no-nan-ordered, lt-left→le}
 use Rattle.float_order.specs.Ops.{zero₊, nonneg-under}
 use Rattle.float_order.specs.Same.{is_zero}
 use Rattle.float_order.specs.Bits.{finite-bound}
@@ -15,15 +14,15 @@ abbrev zero64 : Float
 zero64 = of_bits binary64 0
 
 -- ---- a NaN
-pub at-nan : (x : Float) → ne x x ≡ true → x ≡ nan
-at-nan x p = differs_from_itself x (is_true _ p)
+pub at-nan : (x : Float) → is_nan x ≡ true → x ≡ nan
+unfolding is_nan
+at-nan nan p = refl
+at-nan (inf s) p = absurd (is_true false p)
+at-nan (fin s m e) p = absurd (is_true false p)
 
 pub root-of-nan : sqrt nan ≡ nan
 unfolding sqrt
 root-of-nan = refl
-
-pub no_nan : (x : Float) → ne x x ≡ false → T (not (is_nan x))
-no_nan x p = is_false (is_nan x) (sym (ne-self x) ∙ p)
 
 -- ---- a zero
 is-zero : (x : Float) → eq x zero64 ≡ is_zero x
@@ -60,9 +59,9 @@ at-below (fin true zero e) p = absurd (both-none (up e) (down e) (ltb→lt 0 (0 
 at-below (fin true (suc m) e) p = refl
 at-below (fin false m e) p = absurd (none (m * up e * 1) (down e) (ltb→lt (m * up e * 1) (0 * down e) (is_true _ p)))
 
-pub zero_by_zero : div binary64 zero64 zero64 ≡ nan
-unfolding div of_bits
-zero_by_zero = refl
+pub nan_is : of_bits binary64 0x7ff8000000000000 ≡ nan
+unfolding of_bits
+nan_is = refl
 
 -- ---- infinity
 inf-is : of_bits binary64 (2047 * 2 ^ 52) ≡ sqrt (of_bits binary64 (2047 * 2 ^ 52))
@@ -93,11 +92,11 @@ zero_is : zero64 ≡ zero₊
 unfolding of_bits
 zero_is = refl
 
-pub in-range : (x : Float) → fits binary64 x ≡ true → ne x x ≡ false → eq x zero64 ≡ false → lt x zero64 ≡ false → ¬ (to_bits binary64 x ≡ 2047 * 2 ^ 52)
+pub in-range : (x : Float) → fits binary64 x ≡ true → is_nan x ≡ false → eq x zero64 ≡ false → lt x zero64 ≡ false → ¬ (to_bits binary64 x ≡ 2047 * 2 ^ 52)
     → (0 < to_bits binary64 x) × (to_bits binary64 x < 2047 * 2 ^ 52)
 in-range x h a b c d =
     let z : T (not (is_zero x)) = is_false _ (sym (is-zero x) ∙ b) in
     let f : T (fits binary64 x) = is_true _ h in
-    let l : T (le zero₊ x) = lt-left→le x zero₊ (no-nan-ordered x (no_nan x a)) tt (rw zero_is at c) in
+    let l : T (le zero₊ x) = lt-left→le x zero₊ (no-nan-ordered x (is_false _ a)) tt (rw zero_is at c) in
     let n : ¬ (to_bits binary64 x ≡ 0) = λ e. T_not (is_zero x) z (subst (λ (y : Float). T (is_zero y)) (sym (ap (of_bits binary64) e) ∙ of_bits-to_bits binary64 x f) zero-is-zero) in
     (omega arith, below_top x f z l d)

@@ -1,25 +1,10 @@
 -- Whether the whole root of big * 2 ^ 54, halved and rounded up, is q: by the squares of 2 * q - 1 and 2 * q + 1, which are odd and so no multiple of 2 ^ 54.
-use Rattle.std.proofs.Common.{◌≡◌, ℕ, ◌+◌, ◌-◌, ◌*◌, ◌/◌, ◌%◌, ◌^◌, ◌<◌, ◌≤◌, ◌&&◌, eqb, ltb, leb, ap, mul_assoc, mul_comm, add-mul, mul-le-mul, div-add-mod', mul-add, mul_left_comm, arith, le→leb, eqb→eq, ltb→lt, lt→ltb, leb→le}
+use Rattle.std.proofs.Common.{◌≡◌, ℕ, ◌+◌, ◌-◌, ◌*◌, ◌/◌, ◌%◌, ◌^◌, ◌<◌, ◌≤◌, ◌&&◌, eqb, ltb, leb, ap, mul-le-mul, arith, le→leb, eqb→eq, ltb→lt, lt→ltb, leb→le}
 use lib.Ieee.Fits.{and_i, and_l, and_r, eq→eqb}
 use Rattle.bool_laws.specs.Bools.{same-holds}
 use Rattle.sqrt.specs.Sqrt.{whole_root}
 use Rattle.sqrt.specs.WholeRoot.{whole, root_ge, square-odd}
 use Rattle.sqrt.specs.RootBits.{root_bits}
-
--- ---- the square of a * k + b
-square : (a b k : ℕ) → (a * k + b) * (a * k + b) ≡ a * a * (k * k) + 2 * a * b * k + b * b
-square a b k = simp (add-mul, mul-add, mul_assoc, mul_comm, mul_left_comm) (omega arith)
-
-pub high : (s : ℕ) → s / 2 ^ 27 * (s / 2 ^ 27) + (2 * (s / 2 ^ 27) * (s % 2 ^ 27) + s % 2 ^ 27 * (s % 2 ^ 27) / 2 ^ 27) / 2 ^ 27 ≡ s * s / 2 ^ 54
-high s = omega (arith, square (s / 2 ^ 27) (s % 2 ^ 27) (2 ^ 27), ap (λ (x : ℕ). x * x) (div-add-mod' s (2 ^ 27)))
-
-less : (a b : ℕ) → a < 2 ^ 28 → b < 2 ^ 27 → a * b < 2 ^ 55
-less a b h k = omega (arith, mul-le-mul {n₁ = a} {m₁ = b} {n₂ = 2 ^ 28 - 1} {m₂ = 2 ^ 27 - 1} (omega arith) (omega arith))
-
--- the three products fit
-pub fit : (s : ℕ) → s < 2 ^ 54 → (s / 2 ^ 27 * (s / 2 ^ 27) < 2 ^ 55) × (2 * (s / 2 ^ 27) * (s % 2 ^ 27) < 2 ^ 55) × (s % 2 ^ 27 * (s % 2 ^ 27) < 2 ^ 55)
-fit s h =
-    (less (s / 2 ^ 27) (s / 2 ^ 27) (omega arith) (omega arith), less (2 * (s / 2 ^ 27)) (s % 2 ^ 27) (omega arith) (omega arith), less (s % 2 ^ 27) (s % 2 ^ 27) (omega arith) (omega arith))
 
 -- ---- an odd number is at most the root exactly if its square, without the low 54 digits, is below big
 at-most : (big s : ℕ) → s * s / 2 ^ 54 < big → s ≤ whole_root (big * 2 ^ 54)

@@ -19,7 +19,7 @@ fn root_of(m: u64, e: u64) -> Root
     requires { (0 < m) × (m < 2 ^ 53) × (e < 2046) }
     ensures { Sized result.big result.base × (root_units (m * 2 ^ e) ≡ Ieee.of_bits binary64 (root_bits result.big result.base)) }
 {
-    let z = (u64::leading_zeros(m) as u64) - 11;
+    let z = m.leading_zeros() as u64 - 11;
     let p = e + 54 - z;
     Root {
         big: (m << z) << (p % 2),
@@ -49,8 +49,7 @@ fn root54(m: u64) -> u64
     let mut a = m * 1024;
     let mut q: u64 = 0;
     let mut left: u64 = 0;
-    let mut i: u64 = 0;
-    while i < 54 {
+    for _ in 0..54u64 {
         let next = left * 4 + a / 4611686018427387904;
         a = (a % 4611686018427387904) * 4;
         if 4 * q < next {
@@ -60,19 +59,16 @@ fn root54(m: u64) -> u64
             left = next;
             q = 2 * q;
         }
-        i += 1;
     }
     q
 }
 
-// s * s without its low 54 binary digits, from the halves of s.
+// s * s without its low 54 binary digits.
 fn square_high(s: u64) -> u64
     requires { s < 2 ^ 54 }
     ensures { result ≡ s * s / 2 ^ 54 }
 {
-    let a = s / 134217728;
-    let b = s % 134217728;
-    a * a + (2 * a * b + b * b / 134217728) / 134217728
+    ((s as u128 * s as u128) >> 54) as u64
 }
 
 // Is b the pattern of the root? Its significand is q exactly if big * 2^54 lies between the squares of 2q - 1 and 2q + 1, which are odd and so never equal to it.
@@ -90,27 +86,7 @@ fn has_bits(r: Root, b: u64) -> bool
     (square_high(2 * q - 1) < r.big) & (r.big <= square_high(2 * q + 1))
 }
 
-// Newton's step from y towards 1 / √x, where h is x / 2.
-fn newton(h: f64, y: f64) -> f64 {
-    y * (1.5 - h * y * y)
-}
-
-// A guess at the pattern of x's root, from x's own pattern b; nothing is proved of it. Half of b, taken from a constant, is near the pattern
-// of 1 / √x. Three steps from there and one towards √x itself mostly end at the root or a neighbour of it, though seldom where x is subnormal.
-fn guess(x: f64, b: u64) -> u64
-    requires { b < 2047 * 2 ^ 52 }
-{
-    let h = 0.5 * x;
-    let start = f64::from_bits(0x5fe6_eb50_c7b5_37a9 - b / 2);
-    let near = x * newton(h, newton(h, newton(h, start)));
-    let g = 0.5 * (near + x / near);
-    if g != g {
-        return 0;
-    }
-    f64::to_bits(g)
-}
-
-// The root's pattern: the guess c or a neighbour of it, if the test finds it to be the root's, and else digit by digit.
+// The root's pattern: the guess c, if the test finds it to be the root's, and else digit by digit.
 fn root_bits(r: Root, c: u64) -> u64
     requires { Sized r.big r.base }
     ensures { result ≡ root_bits r.big r.base }
@@ -118,45 +94,38 @@ fn root_bits(r: Root, c: u64) -> u64
     if has_bits(r, c) {
         return c;
     }
-    let below = std::num::wrapping_sub_u64(c, 1);
-    if has_bits(r, below) {
-        return below;
-    }
-    let above = std::num::wrapping_add_u64(c, 1);
-    if has_bits(r, above) {
-        return above;
-    }
     r.base + (root54(r.big) + 1) / 2
 }
 
-// IEEE 754's square root.
+// IEEE 754's square root. The guess is std's root, which has another definition of the same: the exact test shows that it is ours, and where it
+// did not the digits would answer.
 pub fn sqrt(x: f64) -> f64
     ensures { result ≡ sqrt x }
 {
-    if x != x {
+    if x.is_nan() {
         return x;
     }
     if x == 0.0 {
         return x;
     }
     if x < 0.0 {
-        return 0.0 / 0.0;
+        return f64::NAN;
     }
-    let b = f64::to_bits(x);
+    let b = x.to_bits();
     if b == 0x7ff0_0000_0000_0000 {
         return x;
     }
-    f64::from_bits(root_bits(root_at(b), guess(x, b)))
+    f64::from_bits(root_bits(root_at(b), x.sqrt().to_bits()))
 }
 
 // Rust's `d == v.sqrt()`, by exact products: no loop, and no root taken.
 pub fn is_sqrt(d: f64, v: f64) -> bool
     ensures { result ≡ Ieee.eq d (sqrt v) }
 {
-    if d != d {
+    if d.is_nan() {
         return false;
     }
-    if v != v {
+    if v.is_nan() {
         return false;
     }
     if v == 0.0 {
@@ -165,9 +134,9 @@ pub fn is_sqrt(d: f64, v: f64) -> bool
     if v < 0.0 {
         return false;
     }
-    let b = f64::to_bits(v);
+    let b = v.to_bits();
     if b == 0x7ff0_0000_0000_0000 {
         return d == v;
     }
-    has_bits(root_at(b), f64::to_bits(d))
+    has_bits(root_at(b), d.to_bits())
 }

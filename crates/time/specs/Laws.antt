@@ -9,13 +9,13 @@ use Rattle.float_order.specs.Interval.{floats}
 use Rattle.float_order.specs.Range.{In, nat, in-closed, add-in, div-in}
 use Rattle.bool_laws.specs.Bools.{cases}
 use Rattle.seconds.specs.Seconds as Seconds
-use Rattle.time.specs.declared.Ordering.TheVariants.{Less, Equal, Greater}
+use Rattle.std.specs.declared.cmp.Ordering.TheVariants.{Less, Equal, Greater}
 use Rattle.time.specs.declared.Timestamp.{Timestamp}
 use Rattle.time.specs.declared.Timestamp.TheVariants.{DistantPast, Exact, DistantFuture}
 use Rattle.time.specs.declared.TimeDelta.{TimeDelta}
 use Rattle.time.specs.declared.TimeDelta.TheVariants.{NegativeInfinity, Negative, Positive, PositiveInfinity}
 use Rattle.time.specs.Time.{limit, positive, negative, exact, limited, limited_instant, Within, WithinInstant}
-use Rattle.time.specs.Time.{place_limited, place, place_limited_instant, place_instant, order}
+use Rattle.time.specs.Time.{place_limited, place, place_limited_instant, place_instant}
 use Rattle.time.specs.Time.{cmp, eq, lt, le, cmp_instant, eq_instant, lt_instant, le_instant}
 use Rattle.time.specs.Time.{neg, difference, add_limited, add, sub, add_limited_delta, add_delta, sub_delta, since_limited, since, div_limited, div, secs_limited, as_secs_f64}
 
@@ -190,16 +190,6 @@ strict m n =
     (λ h. rw (le-ltb m n (omega arith), le-leb m n (omega arith), eq-eqb m n h))
     (λ h. rw (le-ltb m n (omega arith), lt-leb m n h))
 
-compared : (m n : ℕ) → order m n ≡ cond (nat_lt m n) Less (cond (m == n) Equal Greater)
-unfolding order
-compared m n =
-    trichotomy
-    m
-    n
-    (λ h. rw (lt-ltb m n h))
-    (λ h. rw (le-ltb m n (omega arith), le-ltb n m (omega arith), eq-eqb m n h))
-    (λ h. rw (le-ltb m n (omega arith), lt-ltb n m h, ne_eqb m n (λ e. omega arith)))
-
 same_place : (a b : TimeDelta) → Within a → Within b → place_limited a ≡ place_limited b → a ≡ b
 unfolding place_limited
 same_place NegativeInfinity NegativeInfinity h k e = refl
@@ -243,7 +233,7 @@ unfolding place
 limited-eq a b e = eq-eqb (place a) (place b) (ap place_limited e)
 
 pub cmp-lt-eq : (a b : TimeDelta) → cmp a b ≡ cond (lt a b) Less (cond (eq a b) Equal Greater)
-cmp-lt-eq a b = compared (place a) (place b)
+cmp-lt-eq a b = refl
 
 pub negative-zero-below : lt (Negative 0) (Positive 0) ≡ true
 unfolding place place_limited limited negative positive
@@ -290,7 +280,7 @@ unfolding place_instant
 limited-eq-instant a b e = eq-eqb (place_instant a) (place_instant b) (ap place_limited_instant e)
 
 pub cmp-lt-eq-instant : (a b : Timestamp) → cmp_instant a b ≡ cond (lt_instant a b) Less (cond (eq_instant a b) Equal Greater)
-cmp-lt-eq-instant a b = compared (place_instant a) (place_instant b)
+cmp-lt-eq-instant a b = refl
 
 -- ---- exact instants and finite lengths
 pub since-exact : (a b : ℕ) → a ≤ limit → b ≤ limit → since (Exact a) (Exact b) ≡ difference a b

@@ -1,13 +1,14 @@
 -- The Rust's own tables of `cmp` and `sub`: the definitions by places and by opposites give them, once the limits are put.
 use Rattle.std.specs.Prelude.{◌≡◌, ℕ, ◌+◌, ◌-◌, ◌<◌, cond, nat_lt, refl}
-use Rattle.std.proofs.Common.{arith, sym, ◌∙◌, le-leb, lt-ltb, le-ltb}
-use Rattle.time.specs.declared.Ordering.{Ordering}
-use Rattle.time.specs.declared.Ordering.TheVariants.{Less, Equal, Greater}
+use Rattle.std.proofs.Common.{arith, sym, ◌∙◌, le-leb, lt-ltb, le-ltb, eq-eqb, ne_eqb}
+use Rattle.std.specs.Ordering.{nat_cmp}
+use Rattle.std.specs.declared.cmp.Ordering.{Ordering}
+use Rattle.std.specs.declared.cmp.Ordering.TheVariants.{Less, Equal, Greater}
 use Rattle.time.specs.declared.Timestamp.{Timestamp}
 use Rattle.time.specs.declared.Timestamp.TheVariants.{DistantPast, Exact, DistantFuture}
 use Rattle.time.specs.declared.TimeDelta.{TimeDelta}
 use Rattle.time.specs.declared.TimeDelta.TheVariants.{NegativeInfinity, Negative, Positive, PositiveInfinity}
-use Rattle.time.specs.Time.{limit, Within, WithinInstant, positive, negative, exact, limited, limited_instant, place_limited, place, place_limited_instant, place_instant, order, cmp, cmp_instant}
+use Rattle.time.specs.Time.{limit, Within, WithinInstant, positive, negative, exact, limited, limited_instant, place_limited, place, place_limited_instant, place_instant, cmp, cmp_instant}
 use Rattle.time.specs.Time.{neg, difference, add_limited, add, sub, add_limited_delta, add_delta, sub_delta}
 use Rattle.time.specs.Laws.{within-limited, within-limited-instant, limited-within, within-neg, neg-limited, trichotomy}
 
@@ -18,32 +19,40 @@ cmp_table NegativeInfinity (Negative d) = Less
 cmp_table NegativeInfinity (Positive d) = Less
 cmp_table NegativeInfinity PositiveInfinity = Less
 cmp_table (Negative c) NegativeInfinity = Greater
-cmp_table (Negative c) (Negative d) = order d c
+cmp_table (Negative c) (Negative d) = nat_cmp d c
 cmp_table (Negative c) (Positive d) = Less
 cmp_table (Negative c) PositiveInfinity = Less
 cmp_table (Positive c) NegativeInfinity = Greater
 cmp_table (Positive c) (Negative d) = Greater
-cmp_table (Positive c) (Positive d) = order c d
+cmp_table (Positive c) (Positive d) = nat_cmp c d
 cmp_table (Positive c) PositiveInfinity = Less
 cmp_table PositiveInfinity NegativeInfinity = Greater
 cmp_table PositiveInfinity (Negative d) = Greater
 cmp_table PositiveInfinity (Positive d) = Greater
 cmp_table PositiveInfinity PositiveInfinity = Equal
 
-less : (m n : ℕ) → m < n → order m n ≡ Less
-unfolding order
+-- `nat_cmp`, by a name that does not unfold
+unfoldable compared : ℕ → ℕ → Ordering
+compared = nat_cmp
+
+less : (m n : ℕ) → m < n → compared m n ≡ Less
+unfolding compared
 less m n h = rw (lt-ltb m n h)
 
-greater : (m n : ℕ) → n < m → order m n ≡ Greater
-unfolding order
-greater m n h = rw (le-ltb m n (omega arith), lt-ltb n m h)
+greater : (m n : ℕ) → n < m → compared m n ≡ Greater
+unfolding compared
+greater m n h = rw (le-ltb m n (omega arith), ne_eqb m n (λ e. omega arith))
 
-equal : (m n : ℕ) → m ≡ n → order m n ≡ Equal
-unfolding order
-equal m n h = rw (le-ltb m n (omega arith), le-ltb n m (omega arith))
+equal : (m n : ℕ) → m ≡ n → compared m n ≡ Equal
+unfolding compared
+equal m n h = rw (le-ltb m n (omega arith), eq-eqb m n h)
+
+alone : (m n : ℕ) → compared m n ≡ nat_cmp m n
+unfolding compared
+alone m n = refl
 
 -- numbers that compare alike have the same order
-alike : (k l m n : ℕ) → (k < l → m < n) → (k ≡ l → m ≡ n) → (l < k → n < m) → order m n ≡ order k l
+alike : (k l m n : ℕ) → (k < l → m < n) → (k ≡ l → m ≡ n) → (l < k → n < m) → compared m n ≡ nat_cmp k l
 alike k l m n f g h =
     trichotomy
     k
@@ -51,8 +60,9 @@ alike k l m n f g h =
     (λ p. less m n (f p) ∙ sym (less k l p))
     (λ p. equal m n (g p) ∙ sym (equal k l p))
     (λ p. greater m n (h p) ∙ sym (greater k l p))
+    ∙ alone k l
 
-placed : (a b : TimeDelta) → Within a → Within b → order (place_limited a) (place_limited b) ≡ cmp_table a b
+placed : (a b : TimeDelta) → Within a → Within b → compared (place_limited a) (place_limited b) ≡ cmp_table a b
 unfolding place_limited
 placed NegativeInfinity NegativeInfinity h k = equal _ _ refl
 placed NegativeInfinity (Negative d) h k = less _ _ (omega arith)
@@ -74,7 +84,7 @@ placed PositiveInfinity (Positive d) h k = greater _ _ (omega arith)
 placed PositiveInfinity PositiveInfinity h k = equal _ _ refl
 
 pub cmp-table : (a b : TimeDelta) → cmp a b ≡ cmp_table (limited a) (limited b)
-unfolding place
+unfolding place compared
 cmp-table a b = placed (limited a) (limited b) (within-limited a) (within-limited b)
 
 abbrev pub cmp_instant_table : Timestamp → Timestamp → Ordering
@@ -82,13 +92,13 @@ cmp_instant_table DistantPast DistantPast = Equal
 cmp_instant_table DistantPast (Exact t) = Less
 cmp_instant_table DistantPast DistantFuture = Less
 cmp_instant_table (Exact s) DistantPast = Greater
-cmp_instant_table (Exact s) (Exact t) = order s t
+cmp_instant_table (Exact s) (Exact t) = nat_cmp s t
 cmp_instant_table (Exact s) DistantFuture = Less
 cmp_instant_table DistantFuture DistantPast = Greater
 cmp_instant_table DistantFuture (Exact t) = Greater
 cmp_instant_table DistantFuture DistantFuture = Equal
 
-placed-instant : (a b : Timestamp) → WithinInstant a → WithinInstant b → order (place_limited_instant a) (place_limited_instant b) ≡ cmp_instant_table a b
+placed-instant : (a b : Timestamp) → WithinInstant a → WithinInstant b → compared (place_limited_instant a) (place_limited_instant b) ≡ cmp_instant_table a b
 unfolding place_limited_instant
 placed-instant DistantPast DistantPast h k = equal _ _ refl
 placed-instant DistantPast (Exact t) h k = less _ _ (omega arith)
@@ -101,7 +111,7 @@ placed-instant DistantFuture (Exact t) h k = greater _ _ (omega arith)
 placed-instant DistantFuture DistantFuture h k = equal _ _ refl
 
 pub cmp-table-instant : (a b : Timestamp) → cmp_instant a b ≡ cmp_instant_table (limited_instant a) (limited_instant b)
-unfolding place_instant
+unfolding place_instant compared
 cmp-table-instant a b = placed-instant (limited_instant a) (limited_instant b) (within-limited-instant a) (within-limited-instant b)
 
 -- ---- differences

@@ -6,8 +6,8 @@ use Rattle.seconds.specs.Seconds as Seconds
 use Rattle.bandwidth.specs.Bandwidth as Bandwidth
 use Rattle.bandwidth.specs.declared.Bitrate.{Bitrate}
 use Rattle.bandwidth.specs.declared.DataSize.{DataSize}
-use Rattle.time.specs.declared.Ordering.{Ordering}
-use Rattle.time.specs.declared.Ordering.TheVariants.{Less, Equal, Greater}
+use Rattle.std.specs.Ordering.{nat_cmp}
+use Rattle.std.specs.declared.cmp.Ordering.{Ordering}
 use Rattle.time.specs.declared.Timestamp.{Timestamp}
 use Rattle.time.specs.declared.Timestamp.TheVariants.{DistantPast, Exact, DistantFuture}
 use Rattle.time.specs.declared.TimeDelta.{TimeDelta}
@@ -91,11 +91,8 @@ place_limited_instant DistantFuture = limit + 2
 unfoldable pub place_instant : Timestamp → ℕ
 place_instant a = place_limited_instant (limited_instant a)
 
-unfoldable pub order : ℕ → ℕ → Ordering
-order a b = cond (nat_lt a b) Less (cond (nat_lt b a) Greater Equal)
-
 abbrev pub cmp : TimeDelta → TimeDelta → Ordering
-cmp a b = order (place a) (place b)
+cmp a b = nat_cmp (place a) (place b)
 
 abbrev pub eq : TimeDelta → TimeDelta → Bool
 eq a b = place a == place b
@@ -107,7 +104,7 @@ abbrev pub le : TimeDelta → TimeDelta → Bool
 le a b = nat_le (place a) (place b)
 
 abbrev pub cmp_instant : Timestamp → Timestamp → Ordering
-cmp_instant a b = order (place_instant a) (place_instant b)
+cmp_instant a b = nat_cmp (place_instant a) (place_instant b)
 
 abbrev pub eq_instant : Timestamp → Timestamp → Bool
 eq_instant a b = place_instant a == place_instant b

@@ -3,20 +3,16 @@
 #![tactic(auto)]
 
 ghost use Rattle.std.specs.Prelude.{◌≡◌};
+ghost use Rattle.std.specs.Ordering.{as_partial_cmp};
 ghost use Rattle.time.specs.Time as Time;
+ghost use Rattle.time.specs.Orders as Orders;
 
 use bandwidth::{Bitrate, DataSize};
+use std::cmp::Ordering;
+use std::ops::{Add, Div, Neg, Sub};
 
 // The longest finite length, and the last exact instant, in ns.
 pub const MAX: u64 = 4_000_000_000_000_000_000;
-
-// Rust's `std::cmp::Ordering`.
-#[derive(Clone, Copy)]
-pub enum Ordering {
-    Less,
-    Equal,
-    Greater,
-}
 
 #[derive(Clone, Copy)]
 pub enum Timestamp {
@@ -37,70 +33,56 @@ pub enum TimeDelta {
 pub fn saturating_duration_since(later: u64, earlier: u64) -> u64
     ensures { result ≡ Time.saturating_duration_since later earlier }
 {
-    if later < earlier {
-        return 0;
-    }
-    later - earlier
+    later.saturating_sub(earlier)
 }
 
 // The longer of a duration that may be missing and of another.
+#[tactic(auto, unfolding(crate::specs::Time::longest))]
 pub fn longest(duration: Option<u64>, other: u64) -> Option<u64>
     ensures { result ≡ Time.longest duration other }
 {
-    match duration {
-        None => Some(other),
-        Some(d) => {
-            if d < other {
-                return Some(other);
-            }
-            Some(d)
-        }
-    }
-}
-
-fn order(a: u64, b: u64) -> Ordering
-    ensures { result ≡ Time.order a b }
-{
-    if a < b {
-        return Ordering::Less;
-    }
-    if b < a {
-        return Ordering::Greater;
-    }
-    Ordering::Equal
+    duration.max(Some(other))
 }
 
 // a - b, as a length.
+#[tactic(auto, unfolding(crate::specs::Time::difference))]
 fn difference(a: u64, b: u64) -> TimeDelta
     ensures { result ≡ Time.difference a b }
 {
     if a < b {
-        return TimeDelta::Negative(b - a);
+        TimeDelta::Negative(b - a)
+    } else {
+        TimeDelta::Positive(a - b)
     }
-    TimeDelta::Positive(a - b)
+}
+
+// Rust's `From<Duration>`.
+impl From<u64> for TimeDelta {
+    ghost from_gives = { λ duration length. length ≡ Time.positive duration };
+
+    #[tactic(auto, unfolding(crate::specs::Time::positive))]
+    fn from(duration: u64) -> TimeDelta {
+        if duration <= MAX {
+            TimeDelta::Positive(duration)
+        } else {
+            TimeDelta::PositiveInfinity
+        }
+    }
 }
 
 impl TimeDelta {
     pub const ZERO: TimeDelta = TimeDelta::Positive(0);
 
-    // Rust's `From<Duration>`.
-    pub fn from(duration: u64) -> Self
-        ensures { result ≡ Time.positive duration }
-    {
-        if duration <= MAX {
-            return TimeDelta::Positive(duration);
-        }
-        TimeDelta::PositiveInfinity
-    }
-
     // The opposite of a duration.
+    #[tactic(auto, unfolding(crate::specs::Time::negative))]
     fn minus(duration: u64) -> Self
         ensures { result ≡ Time.negative duration }
     {
         if duration <= MAX {
-            return TimeDelta::Negative(duration);
+            TimeDelta::Negative(duration)
+        } else {
+            TimeDelta::NegativeInfinity
         }
-        TimeDelta::NegativeInfinity
     }
 
     // So many units of ns, of either sign.
@@ -109,9 +91,10 @@ impl TimeDelta {
     {
         let duration = number.unsigned_abs().saturating_mul(ns);
         if number >= 0 {
-            return TimeDelta::from(duration);
+            TimeDelta::from(duration)
+        } else {
+            TimeDelta::minus(duration)
         }
-        TimeDelta::minus(duration)
     }
 
     pub fn from_secs(secs: i64) -> Self
@@ -127,6 +110,7 @@ impl TimeDelta {
     }
 
     // The limits above, put to a length that was given.
+    #[tactic(auto, unfolding(crate::specs::Time::limited))]
     fn limited(self) -> Self
         ensures { result ≡ Time.limited self }
     {
@@ -139,11 +123,11 @@ impl TimeDelta {
     }
 
     // The place of the length in the order of all lengths: negative zero is just below zero.
+    #[tactic(auto, unfolding(crate::specs::Time::place, crate::specs::Time::place_limited))]
     fn place(self) -> u64
         ensures { result ≡ Time.place self }
     {
-        let this = self.limited();
-        match this {
+        match self.limited() {
             TimeDelta::NegativeInfinity => 0,
             TimeDelta::Negative(d) => MAX + 1 - d,
             TimeDelta::Positive(d) => MAX + 2 + d,
@@ -151,46 +135,83 @@ impl TimeDelta {
         }
     }
 
-    pub fn cmp(self, other: TimeDelta) -> Ordering
-        ensures { result ≡ Time.cmp self other }
+    // The Rust's table of sums, for lengths within the limits.
+    #[tactic(auto, unfolding(crate::specs::Time::add_limited))]
+    fn add_limited(self, rhs: TimeDelta) -> Self
+        requires { Time.Within self × Time.Within rhs }
+        ensures { result ≡ Time.add_limited self rhs }
     {
-        order(self.place(), other.place())
+        match (self, rhs) {
+            (TimeDelta::PositiveInfinity, _) => TimeDelta::PositiveInfinity,
+            (_, TimeDelta::PositiveInfinity) => TimeDelta::PositiveInfinity,
+            (TimeDelta::NegativeInfinity, _) => TimeDelta::NegativeInfinity,
+            (_, TimeDelta::NegativeInfinity) => TimeDelta::NegativeInfinity,
+            (TimeDelta::Negative(a), TimeDelta::Negative(b)) => TimeDelta::minus(a + b),
+            (TimeDelta::Negative(a), TimeDelta::Positive(b)) => difference(b, a),
+            (TimeDelta::Positive(a), TimeDelta::Negative(b)) => difference(a, b),
+            (TimeDelta::Positive(a), TimeDelta::Positive(b)) => TimeDelta::from(a + b),
+        }
     }
 
-    pub fn eq(self, other: TimeDelta) -> bool
-        ensures { result ≡ Time.eq self other }
+    #[tactic(auto, unfolding(crate::specs::Time::as_secs_f64, crate::specs::Time::secs_limited))]
+    pub fn as_secs_f64(self) -> f64
+        ensures { result ≡ Time.as_secs_f64 self }
     {
+        match self.limited() {
+            TimeDelta::NegativeInfinity => f64::NEG_INFINITY,
+            TimeDelta::Negative(d) => -seconds::as_secs_f64(d),
+            TimeDelta::Positive(d) => seconds::as_secs_f64(d),
+            TimeDelta::PositiveInfinity => f64::INFINITY,
+        }
+    }
+}
+
+// The order is that of the places, and not of the variants: a finite length above MAX is the infinity.
+impl PartialEq for TimeDelta {
+    ghost eq = { Time.eq };
+
+    ghost laws = { Orders.eq_symmetric };
+
+    fn eq(&self, other: &TimeDelta) -> bool {
         self.place() == other.place()
     }
+}
 
-    pub fn lt(self, other: TimeDelta) -> bool
-        ensures { result ≡ Time.lt self other }
-    {
-        self.place() < other.place()
+impl Eq for TimeDelta {
+    ghost laws = { Orders.eq_equivalence };
+}
+
+impl PartialOrd for TimeDelta {
+    ghost partial_cmp = { as_partial_cmp Time.cmp };
+
+    ghost laws = { Orders.partial_order };
+
+    fn partial_cmp(&self, other: &TimeDelta) -> Option<Ordering> {
+        Some(self.cmp(other))
     }
+}
 
-    pub fn le(self, other: TimeDelta) -> bool
-        ensures { result ≡ Time.le self other }
-    {
-        self.place() <= other.place()
+impl Ord for TimeDelta {
+    ghost cmp = { Time.cmp };
+
+    ghost total = { Orders.total_order };
+
+    ghost matches_partial_cmp = { Orders.same_order };
+
+    ghost matches_eq = { Orders.equal_ties };
+
+    fn cmp(&self, other: &TimeDelta) -> Ordering {
+        self.place().cmp(&other.place())
     }
+}
 
-    // Rust's `PartialEq<Duration>` and `PartialOrd<Duration>`.
-    pub fn eq_duration(self, other: u64) -> bool
-        ensures { result ≡ Time.eq self (Time.positive other) }
-    {
-        self.eq(TimeDelta::from(other))
-    }
+impl Neg for TimeDelta {
+    type Output = TimeDelta;
 
-    pub fn cmp_duration(self, other: u64) -> Ordering
-        ensures { result ≡ Time.cmp self (Time.positive other) }
-    {
-        self.cmp(TimeDelta::from(other))
-    }
+    ghost neg_gives = { λ length opposite. opposite ≡ Time.neg length };
 
-    pub fn neg(self) -> Self
-        ensures { result ≡ Time.neg self }
-    {
+    #[tactic(auto, unfolding(crate::specs::Time::neg))]
+    fn neg(self) -> TimeDelta {
         match self {
             TimeDelta::NegativeInfinity => TimeDelta::PositiveInfinity,
             TimeDelta::Negative(d) => TimeDelta::from(d),
@@ -198,95 +219,86 @@ impl TimeDelta {
             TimeDelta::PositiveInfinity => TimeDelta::NegativeInfinity,
         }
     }
+}
 
-    // The Rust's table of sums, for lengths within the limits.
-    fn add_limited(self, rhs: TimeDelta) -> Self
-        requires { Time.Within self × Time.Within rhs }
-        ensures { result ≡ Time.add_limited self rhs }
-    {
-        match self {
-            TimeDelta::PositiveInfinity => TimeDelta::PositiveInfinity,
-            TimeDelta::NegativeInfinity => match rhs {
-                TimeDelta::NegativeInfinity => TimeDelta::NegativeInfinity,
-                TimeDelta::Negative(_) => TimeDelta::NegativeInfinity,
-                TimeDelta::Positive(_) => TimeDelta::NegativeInfinity,
-                TimeDelta::PositiveInfinity => TimeDelta::PositiveInfinity,
-            },
-            TimeDelta::Negative(a) => match rhs {
-                TimeDelta::NegativeInfinity => TimeDelta::NegativeInfinity,
-                TimeDelta::Negative(b) => TimeDelta::minus(a + b),
-                TimeDelta::Positive(b) => difference(b, a),
-                TimeDelta::PositiveInfinity => TimeDelta::PositiveInfinity,
-            },
-            TimeDelta::Positive(a) => match rhs {
-                TimeDelta::NegativeInfinity => TimeDelta::NegativeInfinity,
-                TimeDelta::Negative(b) => difference(a, b),
-                TimeDelta::Positive(b) => TimeDelta::from(a + b),
-                TimeDelta::PositiveInfinity => TimeDelta::PositiveInfinity,
-            },
-        }
-    }
+impl Add<TimeDelta> for TimeDelta {
+    type Output = TimeDelta;
 
-    pub fn add(self, rhs: TimeDelta) -> Self
-        ensures { result ≡ Time.add self rhs }
-    {
+    ghost add_gives = { λ a b sum. sum ≡ Time.add a b };
+
+    #[tactic(auto, unfolding(crate::specs::Time::add))]
+    fn add(self, rhs: TimeDelta) -> TimeDelta {
         self.limited().add_limited(rhs.limited())
     }
+}
 
-    // The Rust's table of differences is that of sums with the opposite length.
-    pub fn sub(self, rhs: TimeDelta) -> Self
-        ensures { result ≡ Time.sub self rhs }
-    {
-        self.add(rhs.neg())
+// The Rust's table of differences is that of sums with the opposite length.
+impl Sub<TimeDelta> for TimeDelta {
+    type Output = TimeDelta;
+
+    ghost sub_gives = { λ a b rest. rest ≡ Time.sub a b };
+
+    #[tactic(auto, unfolding(crate::specs::Time::sub))]
+    fn sub(self, rhs: TimeDelta) -> TimeDelta {
+        self + -rhs
     }
+}
 
-    // A finite length divided by 0 is the infinity of its sign.
-    pub fn div(self, rhs: u32) -> Self
-        ensures { result ≡ Time.div self rhs }
-    {
-        let this = self.limited();
-        match this {
+// A finite length divided by 0 is the infinity of its sign.
+impl Div<u32> for TimeDelta {
+    type Output = TimeDelta;
+
+    ghost div_gives = { λ length n part. part ≡ Time.div length n };
+
+    #[tactic(auto, unfolding(crate::specs::Time::div, crate::specs::Time::div_limited))]
+    fn div(self, rhs: u32) -> TimeDelta {
+        match self.limited() {
             TimeDelta::NegativeInfinity => TimeDelta::NegativeInfinity,
             TimeDelta::Negative(d) => {
                 if rhs == 0 {
-                    return TimeDelta::NegativeInfinity;
+                    TimeDelta::NegativeInfinity
+                } else {
+                    TimeDelta::Negative(d / rhs as u64)
                 }
-                TimeDelta::Negative(d / (rhs as u64))
             }
             TimeDelta::Positive(d) => {
                 if rhs == 0 {
-                    return TimeDelta::PositiveInfinity;
+                    TimeDelta::PositiveInfinity
+                } else {
+                    TimeDelta::Positive(d / rhs as u64)
                 }
-                TimeDelta::Positive(d / (rhs as u64))
             }
             TimeDelta::PositiveInfinity => TimeDelta::PositiveInfinity,
         }
     }
+}
 
-    pub fn as_secs_f64(self) -> f64
-        ensures { result ≡ Time.as_secs_f64 self }
-    {
-        let this = self.limited();
-        match this {
-            TimeDelta::NegativeInfinity => -(1.0 / 0.0),
-            TimeDelta::Negative(d) => -seconds::as_secs_f64(d),
-            TimeDelta::Positive(d) => seconds::as_secs_f64(d),
-            TimeDelta::PositiveInfinity => 1.0 / 0.0,
+// The rate that moves the size in the length, and 0 where that is a zero.
+impl Div<TimeDelta> for DataSize {
+    type Output = Bitrate;
+
+    ghost div_gives = { λ size length rate. rate ≡ Time.rate size length };
+
+    fn div(self, rhs: TimeDelta) -> Bitrate {
+        self.per_secs(rhs.as_secs_f64())
+    }
+}
+
+// Rust's `From<Instant>`.
+impl From<u64> for Timestamp {
+    ghost from_gives = { λ instant time. time ≡ Time.exact instant };
+
+    #[tactic(auto, unfolding(crate::specs::Time::exact))]
+    fn from(instant: u64) -> Timestamp {
+        if instant <= MAX {
+            Timestamp::Exact(instant)
+        } else {
+            Timestamp::DistantFuture
         }
     }
 }
 
 impl Timestamp {
-    // Rust's `From<Instant>`.
-    pub fn from(instant: u64) -> Self
-        ensures { result ≡ Time.exact instant }
-    {
-        if instant <= MAX {
-            return Timestamp::Exact(instant);
-        }
-        Timestamp::DistantFuture
-    }
-
     pub fn is_exact(self) -> bool
         ensures { result ≡ Time.is_exact self }
     {
@@ -297,6 +309,7 @@ impl Timestamp {
         }
     }
 
+    #[tactic(auto, unfolding(crate::specs::Time::limited_instant))]
     fn limited(self) -> Self
         ensures { result ≡ Time.limited_instant self }
     {
@@ -308,132 +321,144 @@ impl Timestamp {
     }
 
     // The place of the instant in the order of all instants.
+    #[tactic(auto, unfolding(crate::specs::Time::place_instant, crate::specs::Time::place_limited_instant))]
     fn place(self) -> u64
         ensures { result ≡ Time.place_instant self }
     {
-        let this = self.limited();
-        match this {
+        match self.limited() {
             Timestamp::DistantPast => 0,
             Timestamp::Exact(t) => t + 1,
             Timestamp::DistantFuture => MAX + 2,
         }
     }
 
-    pub fn cmp(self, other: Timestamp) -> Ordering
-        ensures { result ≡ Time.cmp_instant self other }
-    {
-        order(self.place(), other.place())
-    }
-
-    pub fn eq(self, other: Timestamp) -> bool
-        ensures { result ≡ Time.eq_instant self other }
-    {
-        self.place() == other.place()
-    }
-
-    pub fn lt(self, other: Timestamp) -> bool
-        ensures { result ≡ Time.lt_instant self other }
-    {
-        self.place() < other.place()
-    }
-
-    pub fn le(self, other: Timestamp) -> bool
-        ensures { result ≡ Time.le_instant self other }
-    {
-        self.place() <= other.place()
-    }
-
     // The Rust's table of sums with a length, within the limits.
+    #[tactic(auto, unfolding(crate::specs::Time::add_limited_delta))]
     fn add_limited(self, rhs: TimeDelta) -> Self
         requires { Time.WithinInstant self × Time.Within rhs }
         ensures { result ≡ Time.add_limited_delta self rhs }
     {
-        match rhs {
-            TimeDelta::PositiveInfinity => Timestamp::DistantFuture,
-            TimeDelta::NegativeInfinity => match self {
-                Timestamp::DistantPast => Timestamp::DistantPast,
-                Timestamp::Exact(_) => Timestamp::DistantPast,
-                Timestamp::DistantFuture => Timestamp::DistantFuture,
-            },
-            TimeDelta::Negative(d) => match self {
-                Timestamp::DistantPast => Timestamp::DistantPast,
-                Timestamp::Exact(t) => {
-                    if t < d {
-                        return Timestamp::DistantPast;
-                    }
+        match (self, rhs) {
+            (_, TimeDelta::PositiveInfinity) => Timestamp::DistantFuture,
+            (Timestamp::DistantFuture, _) => Timestamp::DistantFuture,
+            (Timestamp::DistantPast, _) => Timestamp::DistantPast,
+            (Timestamp::Exact(_), TimeDelta::NegativeInfinity) => Timestamp::DistantPast,
+            (Timestamp::Exact(t), TimeDelta::Negative(d)) => {
+                if t < d {
+                    Timestamp::DistantPast
+                } else {
                     Timestamp::Exact(t - d)
                 }
-                Timestamp::DistantFuture => Timestamp::DistantFuture,
-            },
-            TimeDelta::Positive(d) => match self {
-                Timestamp::DistantPast => Timestamp::DistantPast,
-                Timestamp::Exact(t) => Timestamp::from(t + d),
-                Timestamp::DistantFuture => Timestamp::DistantFuture,
-            },
+            }
+            (Timestamp::Exact(t), TimeDelta::Positive(d)) => Timestamp::from(t + d),
         }
-    }
-
-    pub fn add(self, rhs: TimeDelta) -> Self
-        ensures { result ≡ Time.add_delta self rhs }
-    {
-        self.limited().add_limited(rhs.limited())
-    }
-
-    // The difference with a length: the sum with the opposite one, as the Rust's table has it.
-    pub fn sub(self, rhs: TimeDelta) -> Self
-        ensures { result ≡ Time.sub_delta self rhs }
-    {
-        self.add(rhs.neg())
-    }
-
-    pub fn add_duration(self, rhs: u64) -> Self
-        ensures { result ≡ Time.add_delta self (Time.positive rhs) }
-    {
-        self.add(TimeDelta::from(rhs))
-    }
-
-    pub fn sub_duration(self, rhs: u64) -> Self
-        ensures { result ≡ Time.sub_delta self (Time.positive rhs) }
-    {
-        self.sub(TimeDelta::from(rhs))
     }
 
     // The Rust's table of differences, for instants within the limits.
+    #[tactic(auto, unfolding(crate::specs::Time::since_limited))]
     fn since_limited(self, rhs: Timestamp) -> TimeDelta
         ensures { result ≡ Time.since_limited self rhs }
     {
-        match self {
-            Timestamp::DistantFuture => TimeDelta::PositiveInfinity,
-            Timestamp::DistantPast => match rhs {
-                Timestamp::DistantPast => TimeDelta::PositiveInfinity,
-                Timestamp::Exact(_) => TimeDelta::NegativeInfinity,
-                Timestamp::DistantFuture => TimeDelta::NegativeInfinity,
-            },
-            Timestamp::Exact(a) => match rhs {
-                Timestamp::DistantPast => TimeDelta::PositiveInfinity,
-                Timestamp::Exact(b) => difference(a, b),
-                Timestamp::DistantFuture => TimeDelta::NegativeInfinity,
-            },
+        match (self, rhs) {
+            (Timestamp::DistantFuture, _) => TimeDelta::PositiveInfinity,
+            (_, Timestamp::DistantPast) => TimeDelta::PositiveInfinity,
+            (Timestamp::DistantPast, _) => TimeDelta::NegativeInfinity,
+            (_, Timestamp::DistantFuture) => TimeDelta::NegativeInfinity,
+            (Timestamp::Exact(a), Timestamp::Exact(b)) => difference(a, b),
         }
-    }
-
-    // The length from another instant to this one.
-    pub fn since(self, rhs: Timestamp) -> TimeDelta
-        ensures { result ≡ Time.since self rhs }
-    {
-        self.limited().since_limited(rhs.limited())
-    }
-
-    pub fn since_instant(self, rhs: u64) -> TimeDelta
-        ensures { result ≡ Time.since self (Time.exact rhs) }
-    {
-        self.since(Timestamp::from(rhs))
     }
 }
 
-// Rust's `DataSize / TimeDelta`: the rate that moves the size in the length, and 0 where that is a zero.
-pub fn rate(size: DataSize, length: TimeDelta) -> Bitrate
-    ensures { result ≡ Time.rate size length }
-{
-    size.per_secs(length.as_secs_f64())
+impl PartialEq for Timestamp {
+    ghost eq = { Time.eq_instant };
+
+    ghost laws = { Orders.eq_symmetric_instant };
+
+    fn eq(&self, other: &Timestamp) -> bool {
+        self.place() == other.place()
+    }
+}
+
+impl Eq for Timestamp {
+    ghost laws = { Orders.eq_equivalence_instant };
+}
+
+impl PartialOrd for Timestamp {
+    ghost partial_cmp = { as_partial_cmp Time.cmp_instant };
+
+    ghost laws = { Orders.partial_order_instant };
+
+    fn partial_cmp(&self, other: &Timestamp) -> Option<Ordering> {
+        Some(self.cmp(other))
+    }
+}
+
+impl Ord for Timestamp {
+    ghost cmp = { Time.cmp_instant };
+
+    ghost total = { Orders.total_order_instant };
+
+    ghost matches_partial_cmp = { Orders.same_order_instant };
+
+    ghost matches_eq = { Orders.equal_ties_instant };
+
+    fn cmp(&self, other: &Timestamp) -> Ordering {
+        self.place().cmp(&other.place())
+    }
+}
+
+impl Add<TimeDelta> for Timestamp {
+    type Output = Timestamp;
+
+    ghost add_gives = { λ time length sum. sum ≡ Time.add_delta time length };
+
+    #[tactic(auto, unfolding(crate::specs::Time::add_delta))]
+    fn add(self, rhs: TimeDelta) -> Timestamp {
+        self.limited().add_limited(rhs.limited())
+    }
+}
+
+// The difference with a length: the sum with the opposite one, as the Rust's table has it.
+impl Sub<TimeDelta> for Timestamp {
+    type Output = Timestamp;
+
+    ghost sub_gives = { λ time length rest. rest ≡ Time.sub_delta time length };
+
+    #[tactic(auto, unfolding(crate::specs::Time::sub_delta))]
+    fn sub(self, rhs: TimeDelta) -> Timestamp {
+        self + -rhs
+    }
+}
+
+// Rust's `Add<Duration>` and `Sub<Duration>`.
+impl Add<u64> for Timestamp {
+    type Output = Timestamp;
+
+    ghost add_gives = { λ time duration sum. sum ≡ Time.add_delta time (Time.positive duration) };
+
+    fn add(self, rhs: u64) -> Timestamp {
+        self + TimeDelta::from(rhs)
+    }
+}
+
+impl Sub<u64> for Timestamp {
+    type Output = Timestamp;
+
+    ghost sub_gives = { λ time duration rest. rest ≡ Time.sub_delta time (Time.positive duration) };
+
+    fn sub(self, rhs: u64) -> Timestamp {
+        self - TimeDelta::from(rhs)
+    }
+}
+
+// The length from another instant to this one.
+impl Sub<Timestamp> for Timestamp {
+    type Output = TimeDelta;
+
+    ghost sub_gives = { λ later earlier length. length ≡ Time.since later earlier };
+
+    #[tactic(auto, unfolding(crate::specs::Time::since))]
+    fn sub(self, rhs: Timestamp) -> TimeDelta {
+        self.limited().since_limited(rhs.limited())
+    }
 }

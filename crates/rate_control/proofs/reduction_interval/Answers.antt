@@ -1,16 +1,14 @@
--- `rate_control::reduction_interval` meets its contract: each return is its case of the definition.
+-- The definition's two tests, below 10 ms and above 200 ms, are a clamp.
+use Rattle.std.proofs.Common.{◌≡◌, ℕ, Bool, true, false, cond, ltb, max, min, refl, arith, ltb-true, ltb-false}
 use Rattle.rate_control.specs.RateControl.{reduction_interval}
-use borrow.Author.Tests.{le-ltb, lt-ltb}
 use Rattle.rate_control.proofs.reduction_interval.Goals as goal
 
-pub returns-then-rtt-lt10000000 : goal.returns-then-rtt-lt10000000
-unfolding reduction_interval
-returns-then-rtt-lt10000000 c = simp (lt-ltb _ _ c.if-rtt-lt10000000.true)
-
-pub returns-then-rtt-gt200000000 : goal.returns-then-rtt-gt200000000
-unfolding reduction_interval
-returns-then-rtt-gt200000000 c = simp (lt-ltb _ _ c.if-rtt-gt200000000.true, le-ltb _ _ c.if-rtt-lt10000000.false)
+held : (rtt : ℕ) (below above : Bool) → ltb rtt 10000000 ≡ below → ltb 200000000 rtt ≡ above
+    → max 10000000 (min rtt 200000000) ≡ cond below 10000000 (cond above 200000000 rtt)
+held rtt true above b a = omega (arith, ltb-true _ _ b)
+held rtt false true b a = omega (arith, ltb-true _ _ a)
+held rtt false false b a = omega (arith, ltb-false _ _ b, ltb-false _ _ a)
 
 pub returns : goal.returns
 unfolding reduction_interval
-returns c = simp (le-ltb _ _ c.if-rtt-gt200000000.false, le-ltb _ _ c.if-rtt-lt10000000.false)
+returns c = rw c.clamp.ensures (held c.args.rtt _ _ refl refl)

@@ -4,26 +4,23 @@ use lib.Ieee.{binary64, eq}
 use lib.Ieee.Bits.{of_bits-to_bits}
 use Rattle.sqrt.specs.Sqrt.{sqrt}
 use Rattle.sqrt.specs.RootBits.{root_bits}
-use Rattle.sqrt.proofs.Cases.{at-nan, root-of-nan, zero_same, at-below, at-infinity, no_nan, in-range}
+use Rattle.sqrt.proofs.Cases.{at-nan, root-of-nan, zero_same, at-below, at-infinity, in-range}
 use Rattle.sqrt.specs.Units.{digits}
 use Rattle.sqrt.proofs.Equal.{nan_eq, eq-nan, by_bits}
 use Rattle.float_order.specs.Order.{is_true}
 use Rattle.sqrt.proofs.is_sqrt.Goals as goal
 
-pub returns-then-d : goal.returns-then-d
-returns-then-d c = rw (at-nan c.args.d c.if-d.true) (sym (nan_eq (sqrt c.args.v)))
+pub returns-then-is_nan : goal.returns-then-is_nan
+returns-then-is_nan c = rw (at-nan c.args.d (sym c.is_nan.ensures.value ∙ c.if-is_nan.true)) (sym (nan_eq (sqrt c.args.v)))
+
+pub returns-then-is_nan-2 : goal.returns-then-is_nan-2
+returns-then-is_nan-2 c = rw (at-nan c.args.v (sym c.is_nan-2.ensures.value ∙ c.if-is_nan-2.true), root-of-nan) (sym (eq-nan c.args.d))
 
 pub returns-then-v : goal.returns-then-v
-returns-then-v c = rw (at-nan c.args.v c.if-v.true, root-of-nan) (sym (eq-nan c.args.d))
+returns-then-v c = zero_same c.args.d c.args.v c.if-v.true
 
 pub returns-then-v-2 : goal.returns-then-v-2
-returns-then-v-2 c = zero_same c.args.d c.args.v c.if-v-2.true
-
-pub returns-then-v-3 : goal.returns-then-v-3
-returns-then-v-3 c = rw (at-below c.args.v c.if-v-3.true) (sym (eq-nan c.args.d))
-
-pub float_to_bits-b : goal.float_to_bits-b
-float_to_bits-b c = no_nan _ c.if-v.false
+returns-then-v-2 c = rw (at-below c.args.v c.if-v-2.true) (sym (eq-nan c.args.d))
 
 pub returns-then-b-eq9218868437227405312 : goal.returns-then-b-eq9218868437227405312
 returns-then-b-eq9218868437227405312 c =
@@ -33,10 +30,7 @@ returns-then-b-eq9218868437227405312 c =
 pub root_at-requires : goal.root_at-requires
 root_at-requires c =
     let start = c in
-    in-range start.args.v start.well_formed.1.0.1 c.if-v.false c.if-v-2.false c.if-v-3.false c.if-b-eq9218868437227405312.false
-
-pub float_to_bits-d : goal.float_to_bits-d
-float_to_bits-d c = no_nan _ c.if-d.false
+    in-range start.args.v start.well_formed.1.0.1 (sym c.is_nan-2.ensures.value ∙ c.if-is_nan-2.false) c.if-v.false c.if-v-2.false c.if-b-eq9218868437227405312.false
 
 pub returns : goal.returns
 returns c =

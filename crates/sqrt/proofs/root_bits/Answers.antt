@@ -6,12 +6,6 @@ use Rattle.sqrt.proofs.root_bits.Goals as goal
 pub returns-then-has_bits : goal.returns-then-has_bits
 returns-then-has_bits c = eqb-true _ _ (sym c.has_bits.ensures ∙ c.if-has_bits.true)
 
-pub returns-then-has_bits-2 : goal.returns-then-has_bits-2
-returns-then-has_bits-2 c = eqb-true _ _ (sym c.has_bits-2.ensures ∙ c.if-has_bits-2.true)
-
-pub returns-then-has_bits-3 : goal.returns-then-has_bits-3
-returns-then-has_bits-3 c = eqb-true _ _ (sym c.has_bits-3.ensures ∙ c.if-has_bits-3.true)
-
 pub overflow_add-result : goal.overflow_add-result
 overflow_add-result c =
     let start = c in

@@ -3,24 +3,20 @@ use Rattle.std.proofs.Common.{sym, ap, ◌∙◌, arith}
 use lib.Ieee.{binary64}
 use lib.Ieee.Bits.{of_bits-to_bits}
 use Rattle.sqrt.specs.Sqrt.{sqrt}
-use Rattle.sqrt.proofs.Cases.{at-nan, root-of-nan, at_zero, at-below, zero_by_zero, at-infinity, no_nan, in-range}
+use Rattle.sqrt.proofs.Cases.{at-nan, root-of-nan, at_zero, at-below, nan_is, at-infinity, in-range}
 use Rattle.sqrt.specs.Units.{digits}
 use Rattle.float_order.specs.Bits.{no-nan-bits}
 use Rattle.float_order.specs.Order.{is_true}
 use Rattle.sqrt.proofs.sqrt.Goals as goal
-use Rattle.sqrt.proofs.sqrt.Goals.{Else-b-eq9218868437227405312}
+
+pub returns-then-is_nan : goal.returns-then-is_nan
+returns-then-is_nan c = rw (at-nan c.args.x (sym c.is_nan.ensures.value ∙ c.if-is_nan.true)) (sym root-of-nan)
 
 pub returns-then-x : goal.returns-then-x
-returns-then-x c = rw (at-nan c.args.x c.if-x.true) (sym root-of-nan)
+returns-then-x c = at_zero c.args.x c.if-x.true
 
 pub returns-then-x-2 : goal.returns-then-x-2
-returns-then-x-2 c = at_zero c.args.x c.if-x-2.true
-
-pub returns-then-x-3 : goal.returns-then-x-3
-returns-then-x-3 c = zero_by_zero ∙ sym (at-below c.args.x c.if-x-3.true)
-
-pub float_to_bits-b : goal.float_to_bits-b
-float_to_bits-b c = no_nan _ c.if-x.false
+returns-then-x-2 c = nan_is ∙ sym (at-below c.args.x c.if-x-2.true)
 
 pub returns-then-b-eq9218868437227405312 : goal.returns-then-b-eq9218868437227405312
 returns-then-b-eq9218868437227405312 c = at-infinity c.args.x c.well_formed.0.1 c.if-b-eq9218868437227405312.true
@@ -28,10 +24,7 @@ returns-then-b-eq9218868437227405312 c = at-infinity c.args.x c.well_formed.0.1 
 pub root_at-requires : goal.root_at-requires
 root_at-requires c =
     let start = c in
-    in-range start.args.x start.well_formed.0.1 c.if-x.false c.if-x-2.false c.if-x-3.false c.if-b-eq9218868437227405312.false
-
-pub guess-requires : goal.guess-requires
-guess-requires c = (root_at-requires (goal.at.guess-requires c).Else-b-eq9218868437227405312).1
+    in-range start.args.x start.well_formed.0.1 (sym c.is_nan.ensures.value ∙ c.if-is_nan.false) c.if-x.false c.if-x-2.false c.if-b-eq9218868437227405312.false
 
 pub float_from_bits-result : goal.float_from_bits-result
 float_from_bits-result c =

@@ -30,8 +30,8 @@ returns-then-eq c = simp (c.if-eq.true, ← c.eq.ensures, ← c.between-send_tim
 
 pub returns-then-in_burst : goal.returns-then-in_burst
 unfolding belongs_to_group
-returns-then-in_burst c = simp (c.if-in_burst.true, ← c.in_burst.ensures, ← c.saturating_duration_since-span.ensures, ← c.between-arrival_time_delta.ensures, c.if-eq.false, ← c.eq.ensures, ← c.between-send_time_delta.ensures, le-ltb _ _ c.if-local_send_time-first.false)
+returns-then-in_burst c = simp (c.if-in_burst.true, ← c.in_burst.ensures, ← c.saturating_sub-span.ensures, ← c.between-arrival_time_delta.ensures, c.if-eq.false, ← c.eq.ensures, ← c.between-send_time_delta.ensures, le-ltb _ _ c.if-local_send_time-first.false)
 
 pub returns : goal.returns
 unfolding belongs_to_group
-returns c = simp (c.if-in_burst.false, ← c.saturating_duration_since-first_send_delta.ensures, ← c.in_burst.ensures, ← c.saturating_duration_since-span.ensures, ← c.between-arrival_time_delta.ensures, c.if-eq.false, ← c.eq.ensures, ← c.between-send_time_delta.ensures, lt-ltb _ _ c.if-first_send_delta-le-SEND_TIME_GROUP_LENGTH.false, le-ltb _ _ c.if-local_send_time-first.false)
+returns c = simp (c.if-in_burst.false, ← c.saturating_sub-first_send_delta.ensures, ← c.in_burst.ensures, ← c.saturating_sub-span.ensures, ← c.between-arrival_time_delta.ensures, c.if-eq.false, ← c.eq.ensures, ← c.between-send_time_delta.ensures, lt-ltb _ _ c.if-first_send_delta-le-SEND_TIME_GROUP_LENGTH.false, le-ltb _ _ c.if-local_send_time-first.false)

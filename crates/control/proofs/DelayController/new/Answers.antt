@@ -4,4 +4,4 @@ use Rattle.control.proofs.DelayController.new.Goals as goal
 
 pub returns : goal.returns
 unfolding new
-returns c = simp (c.new-smoothed_rtt.ensures, c.new-rate_control.ensures, c.new-trendline_estimator.ensures, c.new-arrival_group_accumulator.ensures)
+returns c = simp (c.new-4.ensures, c.new-3.ensures, c.new-2.ensures, c.new.ensures)

@@ -5,4 +5,4 @@ use Rattle.control.proofs.DelayController.update.Goals as goal
 
 pub returns : goal.returns
 unfolding update update_estimate with_packets with_rate get_smoothed_rtt saturating_add
-returns c = rw (c.saturating_add.ensures, c.rate_from-rate_control.ensures, c.hypothesis.ensures, c.update_rtt-smoothed_rtt.ensures, c.max_rtt.ensures, c.add_packets-detector.ensures)
+returns c = rw (c.saturating_add.ensures, c.rate_from-rate_control.ensures, c.hypothesis.ensures, c.update_rtt-smoothed_rtt.ensures, c.max_rtt-max_rtt.ensures, c.add_packets-detector.ensures)

@@ -4,4 +4,4 @@ use Rattle.rate_control.proofs.RateControl.update_observed_bitrate.Goals as goal
 
 pub returns : goal.returns
 unfolding update_observed_bitrate
-returns c = simp (← c.with_average.ensures, ← c.update.ensures, ← c.reset_below.ensures, ← c.as_f64-observed.ensures)
+returns c = simp (← c.with_average.ensures, ← c.update.ensures, ← c.reset_below-average.ensures, ← c.as_f64-observed.ensures)

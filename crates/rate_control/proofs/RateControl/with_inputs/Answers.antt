@@ -4,4 +4,4 @@ use Rattle.rate_control.proofs.RateControl.with_inputs.Goals as goal
 
 pub returns : goal.returns
 unfolding with_inputs
-returns c = simp (c.or.ensures, ← c.transition-state.ensures)
+returns c = simp (c.or.ensures, ← c.transition.ensures)

@@ -33,6 +33,6 @@ pub returns-then-number-ge0 : goal.returns-then-number-ge0
 returns-then-number-ge0 c = let a = to_z-of_z c.ranges.number in
     rw (c.from.ensures, c.saturating_mul-duration.ensures, c.unsigned_abs.ensures.value, a) (upward _ _ (rw a at c.if-number-ge0.true))
 
-pub returns : goal.returns
-returns c = let a = to_z-of_z c.ranges.number in
+pub returns-else-number-ge0 : goal.returns-else-number-ge0
+returns-else-number-ge0 c = let a = to_z-of_z c.ranges.number in
     rw (c.minus.ensures, c.saturating_mul-duration.ensures, c.unsigned_abs.ensures.value, a) (downward _ _ (rw a at c.if-number-ge0.false))
