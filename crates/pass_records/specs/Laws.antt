@@ -12,6 +12,9 @@ use borrow.Author.Tests.{ne_eqb, le-leb, lt-leb, ltb-true, leb-true, leb-false, 
 use Rattle.bool_laws.specs.Bools.{both, cases}
 use Rattle.pass_records.specs.declared.FileRefusal.{FileRefusal}
 use Rattle.pass_records.specs.declared.FileRefusal.TheVariants.{BadLength, BadKind, BadNext, ShortOutput}
+use Rattle.pass_records.specs.declared.Kind.{Kind}
+use Rattle.pass_records.specs.declared.Kind.TheVariants.{Packet, Report, Timeout}
+use Rattle.std.specs.Result.{result_unwrap_or}
 use Rattle.pass_records.specs.PassRecords.{
   record_bytes,
   most_records,
@@ -23,6 +26,7 @@ use Rattle.pass_records.specs.PassRecords.{
   timeout,
   whole_records,
   record_count,
+  kind_of,
   kind,
   flag,
   next,
@@ -64,6 +68,23 @@ Told bytes last k (Err BadKind) = well_formed bytes ≡ false
 Told bytes last k (Err BadNext) = Formed bytes
 Told bytes last k (Err BadLength) = ⊥
 Told bytes last k (Err ShortOutput) = ⊥
+
+-- ---- the kinds, where a byte that stands for none is taken for a timeout
+module _ (n : ℕ) where
+  by_kind : (P : Kind → Type 0) → (n ≡ packet → P Packet) → (n ≡ report → P Report) → ((n ≡ packet → ⊥) → (n ≡ report → ⊥) → P Timeout) → P (result_unwrap_or (kind_of n) Timeout)
+  by_kind P p r t =
+      cases (λ k. P (result_unwrap_or k Timeout)) (eqb n packet) (λ e. p (eqb-true n packet e))
+      (λ e. cases (λ k. P (result_unwrap_or k Timeout)) (eqb n report) (λ f. r (eqb-true n report f))
+      (λ f. cases (λ k. P (result_unwrap_or k Timeout)) (eqb n timeout) (λ g. t (eqb-false n packet e) (eqb-false n report f)) (λ g. t (eqb-false n packet e) (eqb-false n report f))))
+
+  pub kind-packet : result_unwrap_or (kind_of n) Timeout ≡ Packet → n ≡ packet
+  kind-packet = by_kind (λ k. k ≡ Packet → n ≡ packet) (λ e h. e) (λ e h. cc) (λ e f h. cc)
+
+  pub kind-report : result_unwrap_or (kind_of n) Timeout ≡ Report → n ≡ report
+  kind-report = by_kind (λ k. k ≡ Report → n ≡ report) (λ e h. cc) (λ e h. e) (λ e f h. cc)
+
+  pub kind-other : result_unwrap_or (kind_of n) Timeout ≡ Timeout → (n ≡ packet → ⊥) × (n ≡ report → ⊥)
+  kind-other = by_kind (λ k. k ≡ Timeout → (n ≡ packet → ⊥) × (n ≡ report → ⊥)) (λ e h. cc) (λ e h. cc) (λ e f h. (e, f))
 
 -- ---- a file
 -- what question 10 asks of its length

@@ -158,3 +158,8 @@ judge most file output =
 -- the beginning of a file, one record more than `most`: as much as a program has to read to judge it
 abbrev pub beginning : ℕ → List ℕ → List ℕ
 beginning most file = take (suc most * record_bytes) file
+
+-- 0, or the number of the question that a file fails
+abbrev pub number : Result (Unit {0}) FileRefusal → ℕ
+number (Ok linked) = 0
+number (Err refusal) = question refusal
