@@ -1,4 +1,5 @@
 -- What the proofs of the listing cite: the calls that the waiting packets make, and the lines that are left along the chain.
+use Rattle.bandwidth.specs.declared.Bitrate.{Bitrate}
 use mathlib.Core.Path.{◌≡◌, refl, sym, ap, subst, ◌∙◌}
 use Prim.Native.Nat.{ℕ, ◌+◌, ◌≤◌, ◌<◌}
 use mathlib.Core.Bool.{Bool, true, false, cond, and-false}
@@ -8,9 +9,8 @@ use lib.Dec.{eqb, leb}
 use lib.ListN.{length, take, drop, length-append, length-map}
 use lib.Seq.{sets, length-sets, length-take-le, sets-eq, take_all}
 use borrow.Author.Tests.{eq-eqb, ne_eqb, lt-leb, leb-true, leb-false}
-use Rattle.std.specs.Prelude.{Result, Ok, Err}
+use Rattle.std.specs.Prelude.{Result, Ok, Err, Option}
 use Rattle.acked_bitrate_estimator.specs.declared.AckedBitrateEstimator.{AckedBitrateEstimator}
-use Rattle.bandwidth.specs.declared.OptionBitrate.{OptionBitrate}
 use Rattle.control.specs.Control as Control
 use Rattle.control.specs.declared.DelayController.{DelayController}
 use Rattle.receive_order.specs.ReceiveOrder.{most_packets}
@@ -33,9 +33,9 @@ use Rattle.listing_line.specs.Laws.{put-room, sets-append}
 use Rattle.waiting_packets.specs.WaitingPackets.{Packets, kept, most_waiting, of_records, pushed}
 use Rattle.waiting_packets.specs.Laws.{pushed-kept}
 use Rattle.pass_file.specs.PassFile.{call_at, call_of, calls, first, line_of, lines, listing, probe, shown}
-use Rattle.pass_file.specs.Judged.{JudgesReport, link_of, number_or0, report_of}
+use Rattle.pass_file.specs.Judged.{JudgesReport, link_of, report_of}
 use Rattle.pass_file.specs.Laws.{first_good}
-use Rattle.pass_file.proofs.Judging.{number-pos}
+use Rattle.questions.specs.Laws.{number-above}
 
 -- ---- the text that is left
 -- of the text `whole`, which goes to the start of `old`, the part `rest` is yet to be written, at place `at` of `new`
@@ -207,9 +207,9 @@ module _ (bytes : List ℕ) (waiting : Packets) (acked : AckedBitrateEstimator) 
   the-report h = rw (eq-eqb (kind bytes) Records.report h)
 
   -- a report that is accepted, and one that is not
-  module _ (h : kind bytes ≡ Records.report) {p : OptionBitrate} {t : ℕ} (ep : p ≡ probe bytes) (et : t ≡ receive bytes) {judged : Result AckedBitrateEstimator Refusal} {put : Packets}
+  module _ (h : kind bytes ≡ Records.report) {p : Option Bitrate} {t : ℕ} (ep : p ≡ probe bytes) (et : t ≡ receive bytes) {judged : Result AckedBitrateEstimator Refusal} {put : Packets}
       (j : JudgesReport acked (report_of waiting p t) judged put) where
-    pub report-accepted : {after : AckedBitrateEstimator} {rate : OptionBitrate} {control₁ : DelayController} → judged ≡ Ok after → rate ≡ after.estimate
+    pub report-accepted : {after : AckedBitrateEstimator} {rate : Option Bitrate} {control₁ : DelayController} → judged ≡ Ok after → rate ≡ after.estimate
         → control₁ ≡ Control.update control put.sends put.remotes put.receives rate p t
         → Gives (call (link_of acked control) (call_of bytes waiting)) 0 (link_of after control₁)
     unfolding accepted_with
@@ -219,18 +219,18 @@ module _ (bytes : List ℕ) (waiting : Packets) (acked : AckedBitrateEstimator) 
     report-refused {q} z = rw (← the-report h, ← ep, ← et, j.refuses q z control y1) (record { number_is = refl; link-is = refl })
 
   -- a timeout
-  module _ (h : kind bytes ≡ Records.report → ⊥) {t : ℕ} (et : t ≡ receive bytes) (judged : Result (Unit {0}) Refusal) (e : number_or0 judged ≡ first_no (of_timeout t)) where
-    the-timeout : call (link_of acked control) (call_of bytes waiting) ≡ outcome_unless (number_or0 judged) (link_of acked control) (timed_out (link_of acked control) (receive bytes))
+  module _ (h : kind bytes ≡ Records.report → ⊥) {t : ℕ} (et : t ≡ receive bytes) (judged : Result (Unit {0}) Refusal) (e : Q.number_or0 judged ≡ first_no (of_timeout t)) where
+    the-timeout : call (link_of acked control) (call_of bytes waiting) ≡ outcome_unless (Q.number_or0 judged) (link_of acked control) (timed_out (link_of acked control) (receive bytes))
     the-timeout = rw (ne_eqb (kind bytes) Records.report h, e, et) (timeout-from-7 (link_of acked control) (receive bytes) y1)
 
-    pub timeout-accepted : {x : Unit {0}} {rate : OptionBitrate} {control₁ : DelayController} → judged ≡ Ok x → rate ≡ acked.estimate → control₁ ≡ Control.handle_timeout control rate t
+    pub timeout-accepted : {x : Unit {0}} {rate : Option Bitrate} {control₁ : DelayController} → judged ≡ Ok x → rate ≡ acked.estimate → control₁ ≡ Control.handle_timeout control rate t
         → Gives (call (link_of acked control) (call_of bytes waiting)) 0 (link_of acked control₁)
     unfolding accepted_with timed_out outcome_unless
     timeout-accepted z er f = rw (the-timeout, f, er, et, z) (record { number_is = refl; link-is = refl })
 
     pub timeout-refused : {q : Refusal} → judged ≡ Err q → Gives (call (link_of acked control) (call_of bytes waiting)) (Q.number q) (link_of acked control)
     timeout-refused {q} z =
-        rw (the-timeout, z, outcome-refused (link_of acked control) (timed_out (link_of acked control) (receive bytes)) (Q.number q) (number-pos q))
+        rw (the-timeout, z, outcome-refused (link_of acked control) (timed_out (link_of acked control) (receive bytes)) (Q.number q) (number-above q))
         (record { number_is = refl; link-is = refl })
 
 -- a text at the start of the output, and after it the bytes that were there

@@ -1,42 +1,28 @@
 -- Judging a report of the packets that wait, after they were put in the order of receipt.
-use Prim.Native.Nat.{ℕ, ◌<◌, ◌≤◌}
+use Rattle.bandwidth.specs.declared.Bitrate.{Bitrate}
+use Prim.Native.Nat.{ℕ, ◌≤◌}
 use mathlib.Core.Path.{◌≡◌, refl, sym, ap, ◌∙◌}
 use mathlib.Core.Bool.{Bool, true, false}
 use mathlib.Core.List.{List}
 use native.Mathlib.Omega.{arith}
 use lib.ListN.{length, take}
 use lib.Seq.{take_all}
-use Rattle.std.specs.Prelude.{Ok, Err}
+use Rattle.std.specs.Prelude.{Result, Ok, Err, Option}
 use Rattle.acked_bitrate_estimator.specs.declared.AckedBitrateEstimator.{AckedBitrateEstimator}
-use Rattle.bandwidth.specs.declared.OptionBitrate.{OptionBitrate}
 use Rattle.receive_order.specs.ReceiveOrder.{most_packets, put_in_order}
 use Rattle.receive_order.specs.Laws.{put_front, put-length}
 use Rattle.questions.specs.Questions.{Report, lists_in, number}
 use Rattle.questions.specs.Questions as Q
-use Rattle.questions.specs.Laws.{lengths}
+use Rattle.questions.specs.Laws.{lengths, number-above}
 use Rattle.questions.specs.declared.Refusal.{Refusal}
-use Rattle.questions.specs.declared.Refusal.TheVariants as R
-use Rattle.questions.specs.declared.OptionRefusal.TheVariants as Option
 use Rattle.link_state.specs.State.{in_range}
 use Rattle.link_state.specs.declared.Link.{Link}
 use Rattle.link.specs.Link.{Judgement, first_no_in_order, judge_report, judged, report, report_in_order}
 use Rattle.link.specs.Laws.{in-order-refused, in-order-taken, judged-number, judged-taken, report-ordered, report-refused}
-use Rattle.link.specs.declared.Judged.{Judged}
 use Rattle.pass_file.specs.Judged.{JudgesReport, link_of, report_of}
 use Rattle.waiting_packets.specs.WaitingPackets.{Packets, in_order}
 
-pub number-pos : (refusal : Refusal) → 0 < number refusal
-number-pos R.OutOfRange = omega arith
-number-pos R.BadStartBitrate = omega arith
-number-pos R.BadWindow = omega arith
-number-pos R.BadLists = omega arith
-number-pos R.BadInstant = omega arith
-number-pos R.BadSize = omega arith
-number-pos R.BadMoment = omega arith
-number-pos R.BadProbe = omega arith
-number-pos R.TooManyBytes = omega arith
-
-module _ (p : Packets) (probe : OptionBitrate) (now : ℕ) where
+module _ (p : Packets) (probe : Option Bitrate) (now : ℕ) where
   abbrev came : Report
   came = report_of p probe now
 
@@ -69,25 +55,22 @@ module _ (p : Packets) (probe : OptionBitrate) (now : ℕ) where
           report-ordered l came y1 y4 (front p.sizes m.sizes-length) (front p.sends m.sends-length) (front p.remotes m.remotes-length) (front p.receives m.receives-length)
       go false n4 = report-refused l came y1 put n4 (lists-same ∙ n4)
 
-  module _ (acked : AckedBitrateEstimator) (j : Judged) (e : judged j ≡ judge_report acked put) where
-    first-no : first_no_in_order acked put ≡ Q.number_or0 j.refusal
-    first-no = sym (judged-number acked put) ∙ sym (ap (λ (g : Judgement). g.number) e)
-
-    pub judges-taken : j.refusal ≡ Option.None → JudgesReport acked came (Ok j.acked) (in_order p)
-    judges-taken z =
-        let none : first_no_in_order acked put ≡ 0 = first-no ∙ ap Q.number_or0 z in
+  module _ (acked : AckedBitrateEstimator) where
+    pub judges : (result : Result AckedBitrateEstimator Refusal) → judged acked result ≡ judge_report acked put → JudgesReport acked came result (in_order p)
+    judges (Ok taken) e =
+        let none : first_no_in_order acked put ≡ 0 = sym (judged-number acked put) ∙ sym (ap (λ (g : Judgement). g.number) e) in
         record {
           accepts = λ after q c y1.
-              let is : j.acked ≡ after = cc in
+              let is : taken ≡ after = cc in
               sym (put_same (link_of acked c) y1)
               ∙ in-order-taken (link_of acked c) put none (sym is ∙ ap (λ (g : Judgement). g.acked) e ∙ judged-taken acked put none) refl refl;
           refuses = λ refusal q. cc;
         }
-
-    pub judges-refused : (refusal : Refusal) → j.refusal ≡ Option.Some refusal → JudgesReport acked came (Err refusal) (in_order p)
-    judges-refused refusal z = record {
-      accepts = λ after q. cc;
-      refuses = λ again q c y1.
-          let is : refusal ≡ again = cc in
-          sym (put_same (link_of acked c) y1) ∙ in-order-refused (link_of acked c) put (first-no ∙ ap Q.number_or0 z ∙ ap number is) (number-pos again);
-    }
+    judges (Err refusal) e =
+        let first : first_no_in_order acked put ≡ number refusal = sym (judged-number acked put) ∙ sym (ap (λ (g : Judgement). g.number) e) in
+        record {
+          accepts = λ after q. cc;
+          refuses = λ again q c y1.
+              let is : refusal ≡ again = cc in
+              sym (put_same (link_of acked c) y1) ∙ in-order-refused (link_of acked c) put (first ∙ ap number is) (number-above again);
+        }

@@ -1,7 +1,7 @@
 -- What judging a report tells before its link is updated: its refusal, or what the link is then updated with.
-use Rattle.std.specs.Prelude.{ℕ, ◌≡◌, true, Result, Ok, Err}
+use Rattle.bandwidth.specs.declared.Bitrate.{Bitrate}
+use Rattle.std.specs.Prelude.{ℕ, ◌≡◌, true, Result, Ok, Err, Option}
 use Rattle.acked_bitrate_estimator.specs.declared.AckedBitrateEstimator.{AckedBitrateEstimator}
-use Rattle.bandwidth.specs.declared.OptionBitrate.{OptionBitrate}
 use Rattle.control.specs.Control as Control
 use Rattle.control.specs.declared.DelayController.{DelayController}
 use Rattle.questions.specs.Questions.{Report, number, report-of}
@@ -11,13 +11,8 @@ use Rattle.link_state.specs.declared.Link.{Link}
 use Rattle.link.specs.Link.{accepted_with, refused_by, report}
 use Rattle.waiting_packets.specs.WaitingPackets.{Packets}
 
--- the number of a refusal, or 0
-abbrev pub number_or0 : {A : Type 0} → Result A Refusal → ℕ
-number_or0 (Ok x) = 0
-number_or0 (Err refusal) = number refusal
-
 -- the report of these packets
-abbrev pub report_of : Packets → OptionBitrate → ℕ → Report
+abbrev pub report_of : Packets → Option Bitrate → ℕ → Report
 report_of p probe now = report-of p.sequences p.sizes p.sends p.remotes p.receives probe now
 
 abbrev pub link_of : AckedBitrateEstimator → DelayController → Link

@@ -1,11 +1,10 @@
 -- Document 01, pass file and program: the calls that a pass file makes, the lines of their run, and the answer to a file.
-use Rattle.std.specs.Prelude.{ℕ, cond, List, [], ◌∷◌, ◌++◌, Result, Ok, Err, eqb, length, drop}
+use Rattle.bandwidth.specs.declared.Bitrate.{Bitrate}
+use Rattle.std.specs.Prelude.{ℕ, cond, List, [], ◌∷◌, ◌++◌, Result, Ok, Err, eqb, length, drop, Option, Some, None}
 use Prim.Native.Char.{code}
 use Rattle.std.specs.Float.{binary64}
 use Rattle.std.specs.Float.Ieee.{of_bits, to_bits}
 use Rattle.bandwidth.specs.Bandwidth.{rate, bps}
-use Rattle.bandwidth.specs.declared.OptionBitrate.{OptionBitrate}
-use Rattle.bandwidth.specs.declared.OptionBitrate.TheVariants as Rate
 use Rattle.bandwidth.specs.declared.BandwidthUsage.{BandwidthUsage}
 use Rattle.bandwidth.specs.declared.BandwidthUsage.TheVariants as Usage
 use Rattle.control.specs.declared.DelayController.{DelayController}
@@ -26,8 +25,8 @@ abbrev pub first : Link
 first = L.new (bps 1000000) 500000000 150000000
 
 -- ---- the calls of a file
-abbrev pub probe : List ℕ → OptionBitrate
-probe bytes = cond (eqb (flag bytes) 1) (Rate.Some (rate (of_bits binary64 (probe_bits bytes)))) Rate.None
+abbrev pub probe : List ℕ → Option Bitrate
+probe bytes = cond (eqb (flag bytes) 1) (Some (rate (of_bits binary64 (probe_bits bytes)))) None
 
 -- the call of a record, with these packets if it is a report
 abbrev pub call_of : List ℕ → Packets → Call

@@ -1,6 +1,6 @@
 -- The listing of document 01's example, computed from the definitions.
 use Prim.Native.Char.{code}
-use Rattle.std.specs.Prelude.{◌≡◌, true, [], ◌∷◌, ◌++◌, Ok}
+use Rattle.std.specs.Prelude.{◌≡◌, true, [], ◌∷◌, ◌++◌, Ok, Some}
 use Rattle.std.proofs.Math.Path.{refl, sym}
 use Rattle.std.proofs.Common.{ap, subst, ◌∙◌}
 use Rattle.std.specs.Float.{binary64}
@@ -11,7 +11,6 @@ use Rattle.le_bytes.specs.LeBytes.{le}
 use Rattle.time.specs.Time.{saturating_add}
 use Rattle.bandwidth.specs.Bandwidth as Bandwidth
 use Rattle.bandwidth.specs.Bandwidth.{bps, rate}
-use Rattle.bandwidth.specs.declared.OptionBitrate.TheVariants as Rate
 use Rattle.receive_order.specs.ReceiveOrder.{is_sorted}
 use Rattle.rate_control.specs.RateControl as RateControl
 use Rattle.control.specs.Control as Control
@@ -32,7 +31,7 @@ use Rattle.pass_file.specs.Laws.{file_calls, first-opened}
 
 -- record 3's report: no packets, a probe of 2,000,000
 abbrev probed : Report
-probed = report-of [] [] [] [] [] (Rate.Some (rate (of_bits binary64 0x413e_8480_0000_0000))) 1010000000
+probed = report-of [] [] [] [] [] (Some (rate (of_bits binary64 0x413e_8480_0000_0000))) 1010000000
 
 abbrev one : Numbered
 one = record { number = 1; call = timeout 1000000000 }

@@ -6,17 +6,16 @@ ghost use Rattle.pass_records.specs.PassRecords as Records;
 ghost use Rattle.pass_records.specs.Laws.{OnChain};
 ghost use Rattle.listing_line.specs.ListingLine.{Wrote};
 ghost use Rattle.waiting_packets.specs.WaitingPackets.{of_records};
-ghost use Rattle.questions.specs.Questions.{first_no, of_timeout};
 ghost use Rattle.pass_file.specs.PassFile as PassFile;
-ghost use Rattle.pass_file.specs.Judged.{JudgesReport, number_or0, report_of};
+ghost use Rattle.pass_file.specs.Judged.{JudgesReport, report_of};
 
 use acked_bitrate_estimator::AckedBitrateEstimator;
-use bandwidth::{BandwidthUsage, Bitrate, OptionBitrate};
+use bandwidth::{BandwidthUsage, Bitrate};
 use control::DelayController;
 use link_state::Link;
 use listing_line::Line;
 use pass_records::{FileRefusal, Kind, Record};
-use questions::{OptionRefusal, Refusal};
+use questions::{Refusal, Report};
 use waiting_packets::WaitingPackets;
 
 // ---- a call
@@ -28,50 +27,36 @@ fn open() -> Link
     Link { acked, control }
 }
 
-fn probe(record: Record) -> OptionBitrate
+fn probe(record: Record) -> Option<Bitrate>
     ensures { result ≡ PassFile.probe «record».entry.bytes.now }
 {
     if record.flag() == 1 {
         let bits = record.probe_bits();
-        return OptionBitrate::Some(Bitrate(float_bits::from_bits(bits)));
+        return Some(Bitrate(float_bits::from_bits(bits)));
     }
-    OptionBitrate::None
+    None
 }
 
 // Questions 4 to 9 of a report of the packets that wait, which are then in the order of receipt. If it is accepted, the acknowledged-rate estimator after it.
 fn judge_report(
     acked: AckedBitrateEstimator,
     waiting: &mut WaitingPackets,
-    probe: OptionBitrate,
+    probe: Option<Bitrate>,
     moment: u64,
 ) -> Result<AckedBitrateEstimator, Refusal>
     ensures { JudgesReport acked (report_of waiting.old probe moment) result waiting.new }
 {
     waiting.put_in_order();
-    let judged = link::judge_report(
-        acked,
-        waiting.sequences(),
-        waiting.sizes(),
-        waiting.sends(),
-        waiting.remotes(),
-        waiting.receives(),
+    let report = Report {
+        sequences: waiting.sequences(),
+        sizes: waiting.sizes(),
+        sends: waiting.sends(),
+        remotes: waiting.remotes(),
+        receives: waiting.receives(),
         probe,
         moment,
-    );
-    match judged.refusal {
-        OptionRefusal::None => Ok(judged.acked),
-        OptionRefusal::Some(refusal) => Err(refusal),
-    }
-}
-
-// Question 7 of a timeout.
-fn judge_timeout(now: u64) -> Result<(), Refusal>
-    ensures { number_or0 result ≡ first_no (of_timeout now) }
-{
-    match questions::timeout(now) {
-        OptionRefusal::None => Ok(()),
-        OptionRefusal::Some(refusal) => Err(refusal),
-    }
+    };
+    link::judge_report(acked, report)
 }
 
 // ---- its line
@@ -133,16 +118,16 @@ fn list_chain(file: &[u8], out: &mut [u8], waiting: &mut WaitingPackets, link: L
                             now,
                         );
                     }
-                    Err(refusal) => number = refusal.number(),
+                    Err(refusal) => number = u64::from(refusal),
                 }
                 waiting.clear();
                 at = line_of(k, number, &control).put(out, at);
             }
             Kind::Timeout => {
                 let mut number = 0;
-                match judge_timeout(now) {
+                match questions::timeout(now) {
                     Ok(()) => control = control.handle_timeout(acked.current_estimate(), now),
-                    Err(refusal) => number = refusal.number(),
+                    Err(refusal) => number = u64::from(refusal),
                 }
                 at = line_of(k, number, &control).put(out, at);
             }

@@ -5,4 +5,4 @@ use Rattle.link_state.proofs.sum_in.Goals as goal
 
 pub returns : goal.returns
 unfolding sum_in
-returns c = simp (c.lt-below.ensures, c.lt-some.ensures, c.bytes_in.ensures, size-below)
+returns c = simp (c.lt-below.ensures, c.lt-some.ensures, size-below) cc

@@ -10,7 +10,7 @@ use Rattle.pass_file.specs.Judged.{link_of}
 use Rattle.pass_file.specs.PassFile.{call_of}
 use Rattle.pass_file.proofs.Chain.{Gives, Progress, joined, left-from, none_left, report-accepted, report-refused, reported, same-progress, starts, timed, timeout-accepted, timeout-refused, unrolled, written}
 use Rattle.pass_file.proofs.list_chain.Goals as goal
-use Rattle.pass_file.proofs.list_chain.Goals.{After-next-next, in-Packet, in-Report, in-Ok, in-Err, in-Timeout, in-Ok-judge_timeout, in-Err-judge_timeout}
+use Rattle.pass_file.proofs.list_chain.Goals.{After-next-next, in-Packet, in-Report, in-Ok, in-Err, in-Timeout, in-Ok-timeout, in-Err-timeout}
 
 passed : (c : After-next-next) →
     let bytes = c.of-record.result.bytes.now in
@@ -44,15 +44,15 @@ passed c =
           (reported b p is gives (rw w.line_of.ensures at w.put-at.ensures.out_after) (rw w.line_of.ensures at w.put-at.ensures.value) w.clear.ensures)
       | in-Timeout w ↦
           let is = kind-other (kind bytes) (told ∙ w.in-Timeout.is) in
-          let m = w.match-judge_timeout in
+          let m = w.match-timeout in
           let gives : Gives (call (link_of c.loop-waiting.acked c.loop-waiting.control) (call_of bytes c.loop-waiting.waiting)) m.number (link_of c.loop-waiting.acked m.control) =
           elim m.branch [
-            | in-Ok-judge_timeout v ↦
+            | in-Ok-timeout v ↦
                 rw (v.number-is, v.control-is)
-                (timeout-accepted bytes c.loop-waiting.waiting c.loop-waiting.acked c.loop-waiting.control y is.1 c.receive-now.ensures _ w.judge_timeout.ensures v.in-Ok-judge_timeout.is v.current_estimate-in-Ok-judge_timeout.ensures v.handle_timeout-control.ensures)
-            | in-Err-judge_timeout v ↦
-                rw (v.number-is, v.control-is, v.number-number-in-Err-judge_timeout.ensures)
-                (timeout-refused bytes c.loop-waiting.waiting c.loop-waiting.acked c.loop-waiting.control y is.1 c.receive-now.ensures _ w.judge_timeout.ensures v.in-Err-judge_timeout.is)
+                (timeout-accepted bytes c.loop-waiting.waiting c.loop-waiting.acked c.loop-waiting.control y is.1 c.receive-now.ensures _ w.timeout.ensures v.in-Ok-timeout.is v.current_estimate-in-Ok-timeout.ensures v.handle_timeout-control.ensures)
+            | in-Err-timeout v ↦
+                rw (v.number-is, v.control-is, v.number-number-in-Err-timeout.ensures)
+                (timeout-refused bytes c.loop-waiting.waiting c.loop-waiting.acked c.loop-waiting.control y is.1 c.receive-now.ensures _ w.timeout.ensures v.in-Err-timeout.is)
           ] in
           let put = w.put-at-in-Timeout.ensures in
           let line = w.line_of-in-Timeout.ensures in
