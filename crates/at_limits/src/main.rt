@@ -7,6 +7,8 @@ use arrival_group::{ArrivalGroup, InterGroupDelayDelta};
 use bandwidth::{BandwidthUsage, Bitrate, DataSize};
 use control::DelayController;
 use link_state::Link;
+use questions::Report;
+use receive_order::Keys;
 use std::io;
 use time::{TimeDelta, Timestamp};
 use trendline::{Delays, TrendlineEstimator};
@@ -428,41 +430,38 @@ fn report(
     instants: &[u64],
     moment: u64,
 ) -> io::Result<()> {
-    let called = link::report(
-        out_of_range(),
+    let report = Report {
         sequences,
         sizes,
-        instants,
-        instants,
-        instants,
-        None,
+        sends: instants,
+        remotes: instants,
+        receives: instants,
+        probe: None,
         moment,
-    );
-    let answer = called.answer;
-    number(rt, answer.number())
+    };
+    let called = link::report(out_of_range(), report);
+    number(rt, questions::number(called.answer))
 }
 
 fn timeout(rt: &impl Print, moment: u64) -> io::Result<()> {
     let called = link::timeout(out_of_range(), moment);
-    let answer = called.answer;
-    number(rt, answer.number())
+    number(rt, questions::number(called.answer))
 }
 
 // Whether a report that question 9 turns down leaves the estimator as it was.
 fn too_many_bytes(rt: &impl Print) -> io::Result<()> {
-    let judged = link::judge_report(
-        AckedBitrateEstimator::new(500_000_000, 150_000_000),
-        &[1, 2],
-        &[1, 2_147_483_647],
-        &[5, 6],
-        &[5, 6],
-        &[5, 6],
-        None,
-        0,
-    );
-    let acked = judged.acked;
-    let sum = acked.sum;
-    yes_or_no(rt, sum.0 == 0)
+    let acked = AckedBitrateEstimator::new(500_000_000, 150_000_000);
+    let report = Report {
+        sequences: &[1, 2],
+        sizes: &[1, 2_147_483_647],
+        sends: &[5, 6],
+        remotes: &[5, 6],
+        receives: &[5, 6],
+        probe: None,
+        moment: 0,
+    };
+    let after = link::judge_report(acked, report).unwrap_or(acked);
+    yes_or_no(rt, after.sum.0 == 0)
 }
 
 // Of one packet.
@@ -548,7 +547,12 @@ fn sum(rt: &impl Print, a: i64, b: i64, expected: i64) -> io::Result<()> {
 
 // The order of two packets, and entries of which the third is past the end: 0 after the last.
 fn order(rt: &impl Print) -> io::Result<()> {
-    let order = receive_order::order_by_receive_time(&[7, 5], &[0, 0], &[0, 0]);
+    let keys = Keys {
+        remotes: &[7, 5],
+        sends: &[0, 0],
+        sequences: &[0, 0],
+    };
+    let order = keys.order_by_receive_time();
     let entries = receive_order::gather(&[10, 20], &[1, 0, 9], 3);
     yes_or_no(rt, (order[0] == 1) & (order[1] == 0) & (order[2] == 0))?;
     yes_or_no(

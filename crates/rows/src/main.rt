@@ -6,6 +6,7 @@ use arrival_group::ArrivalGroup;
 use bandwidth::{Bitrate, DataSize};
 use control::DelayController;
 use link_state::Link;
+use questions::Report;
 use std::io;
 use trendline::Delays;
 
@@ -48,18 +49,16 @@ fn fresh() -> Link {
 
 // A report of packets of one byte, all sent and received at 0, to a fresh link.
 fn packets(rt: &impl Print, name: &str, sizes: &[u64], instants: &[u64]) -> io::Result<()> {
-    let called = link::report(
-        fresh(),
-        instants,
+    let report = Report {
+        sequences: instants,
         sizes,
-        instants,
-        instants,
-        instants,
-        None,
-        0,
-    );
-    let answer = called.answer;
-    let number = answer.number();
+        sends: instants,
+        remotes: instants,
+        receives: instants,
+        probe: None,
+        moment: 0,
+    };
+    let number = questions::number(link::report(fresh(), report).answer);
     println!(rt; "{name}: {number}")
 }
 
