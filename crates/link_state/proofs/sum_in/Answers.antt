@@ -1,7 +1,0 @@
--- The tests are the definition's.
-use Rattle.link_state.specs.State.{sum_in}
-use Rattle.link_state.proofs.sum_in.Goals as goal
-
-pub returns : goal.returns
-unfolding sum_in
-returns c = cc
