@@ -10,11 +10,7 @@ use std::io::Read;
 use std::num::{wrapping_add_u64, wrapping_sub_u64};
 
 fn opened() -> [u64; 100] {
-    if let Ok(opening) = Opening::judge(
-        Bitrate(1_000_000.0),
-        500_000_000,
-        150_000_000,
-    ) {
+    if let Ok(opening) = Opening::judge(Bitrate(1_000_000.0), 500_000_000, 150_000_000) {
         return link_words::words(opening.link());
     }
     [0; 100]
