@@ -66,6 +66,7 @@ pub fn read(message: &[u8], cursor: &mut Cursor, statuses: &mut [u8], ticks: &mu
 {
     let room = statuses.len().min(ticks.len());
     let mut packets: usize = 0;
+    // No `for`: a turn hands out a run of packets or one.
     while packets < room {
         let n = run_at_hand(message.len(), room - packets, *cursor);
         if 0 < n {

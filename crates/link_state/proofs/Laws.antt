@@ -33,11 +33,11 @@ module _ (low high most : Float) (times delays : List Float) (n i : ℕ) (few : 
   abbrev left : Float → ℕ → Bool
   left from at = ascends from (drop at (take n times)) high && all_within most (drop at (take n delays))
 
-  pub timings-turn : (all one : Bool) → i < n → one ≡ (le low (get_or times i nan) && within (neg most) most (get_or delays i nan))
-      → ((all && one) && left (get_or times i nan) (i + 1)) ≡ (all && left low i)
+  pub timings-turn : (all : Bool) → i < n
+      → ((all && (le low (get_or times i nan) && within (neg most) most (get_or delays i nan))) && left (get_or times i nan) (i + 1)) ≡ (all && left low i)
   unfolding ascends all_within
-  timings-turn all one h e =
-      rw (rest-cons times n i, rest-cons delays n i, e)
+  timings-turn all h =
+      rw (rest-cons times n i, rest-cons delays n i)
       (regroup all (le low (get_or times i nan)) (within (neg most) most (get_or delays i nan)) (ascends (get_or times i nan) (drop (i + 1) (take n times)) high) (all_within most (drop (i + 1) (take n delays))))
 
   pub timings-end : i ≡ n → left low i ≡ le low high

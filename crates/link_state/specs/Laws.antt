@@ -1,6 +1,6 @@
 -- What a passed question 1 tells of a link, over numbers. `Sized` is known of every value of the code.
 use Rattle.trendline.specs.declared.Overuse.{Overuse}
-use Rattle.std.specs.Prelude.{◌≡◌, refl, true, false, not, List, [], ◌∷◌, ℕ, zero, suc, ◌+◌, ◌*◌, ◌^◌, ◌≤◌, ◌<◌, ℤ, pos, negsuc, T, length, take, get_or, Float, Option, Some, None}
+use Rattle.std.specs.Prelude.{◌≡◌, refl, true, false, not, List, [], ◌∷◌, ℕ, zero, suc, ◌+◌, ◌*◌, ◌^◌, ◌≤◌, ◌<◌, ℤ, pos, negsuc, T, length, take, get_or, Float, Option, Some, None, IfSome}
 use Rattle.std.proofs.Common.{ap, inl, inr, leb-true, ltb-false, eqb-true, T_not}
 use native.Mathlib.Omega.{arith}
 use Rattle.std.proofs.lemmas.Bool.{not-true}
@@ -50,12 +50,11 @@ use Rattle.link_state.specs.State.{
   average_within,
   control_in,
   delays_in,
-  duration_in,
   group_in,
   groups_in,
   history_in,
   in_range,
-  instant_in,
+  ns_in,
   least_acked,
   most30,
   most31,
@@ -76,18 +75,10 @@ pub record Sized (h : History) : Type 0 where
   pub times : length h.times ≡ 20
   pub delays : length h.delays ≡ 20
 
-abbrev pub FloatIn : Float → Float → Option Float → Type 0
-FloatIn low high None = Unit {0}
-FloatIn low high (Some x) = In low high x
-
-abbrev pub RateIn : Float → Float → Option Bitrate → Type 0
-RateIn low high None = Unit {0}
-RateIn low high (Some r) = In low high r.0
-
 -- the factor and the deviation are equal as floats: a zero may have either sign
 pub record AverageInRange (factor most : Float) (m : MovingAverage) : Type 0 where
   pub factor-is : eq m.smoothing_factor factor ≡ true
-  pub average : FloatIn zero₊ most m.average
+  pub average : IfSome m.average (In zero₊ most)
   pub variance : In zero₊ most30 m.variance
   pub std-is : eq m.std (sqrt m.variance) ≡ true
 
@@ -95,7 +86,7 @@ pub record AverageInRange (factor most : Float) (m : MovingAverage) : Type 0 whe
 pub record AckedInRange (a : AckedBitrateEstimator) : Type 0 where
   pub initial : ValidWindow a.initial_window
   pub later : ValidWindow a.window
-  pub estimate : RateIn least_acked (nat (10 ^ 14)) a.estimate
+  pub estimate : IfSome a.estimate (λ r. In least_acked (nat (10 ^ 14)) r.0)
   pub variance : In zero₊ most30 a.estimate_var
   pub sum : ValidSum a.sum
   pub empty : sum.bytes ≡ 0 → a.current_window ≡ 0
@@ -108,25 +99,20 @@ pub record GroupInRange (g : ArrivalGroup) : Type 0 where
   pub last-send : g.last_local_send_time ≤ most_ns
   pub last-remote : g.last_remote_recv_time ≤ most_ns
 
-abbrev pub InRangeIfAny : Option ArrivalGroup → Type 0
-InRangeIfAny None = Unit {0}
-InRangeIfAny (Some g) = GroupInRange g
-
 pub record GroupsInRange (a : ArrivalGroupAccumulator) : Type 0 where
   pub origin : InstantAtMost most_ns a.send_time_origin
-  pub previous : InRangeIfAny a.previous_group
-  pub current : InRangeIfAny a.current_group
+  pub previous : IfSome a.previous_group GroupInRange
+  pub current : IfSome a.current_group GroupInRange
 
-abbrev pub OveruseInRange : Option Overuse → Type 0
-OveruseInRange None = Unit {0}
-OveruseInRange (Some o) = (o.count ≤ 2) × AtMost (2 * 10 ^ 18) o.time_overusing
+abbrev pub OveruseInRange : Overuse → Type 0
+OveruseInRange o = (o.count ≤ 2) × AtMost (2 * 10 ^ 18) o.time_overusing
 
 -- times within ±10 ^ 12 ms and in order, delays, threshold, counts and the previous trend as the trendline's laws ask
 pub record TrendlineInRange (t : TrendlineEstimator) : Type 0 where
   pub zero-time : InstantAtMost most_ns t.zero_time
   pub history : SoundHistory (10 ^ 9) t.history
   pub delays : SoundDelays t.delays
-  pub overuse : OveruseInRange t.overuse
+  pub overuse : IfSome t.overuse OveruseInRange
   pub last-update : InstantAtMost most_ns t.last_threshold_update
 
 pub record RateInRange (c : RateControlState) : Type 0 where
@@ -154,15 +140,15 @@ from_zero : {most x : Float} → within (lit 0) most x ≡ true → In zero₊ m
 unfolding of_bits
 from_zero h = within_in h
 
-instant : (t : Option ℕ) → instant_in t ≡ true → InstantAtMost most_ns t
+instant : (t : Option ℕ) → ns_in t ≡ true → InstantAtMost most_ns t
 instant None h = tt
 instant (Some t) h = leb-true t most_ns h
 
-duration : (d : Option ℕ) → duration_in d ≡ true → DurationAtMost most_ns d
+duration : (d : Option ℕ) → ns_in d ≡ true → DurationAtMost most_ns d
 duration None h = tt
 duration (Some d) h = leb-true d most_ns h
 
-float : (most : Float) (a : Option Float) → average_within most a ≡ true → FloatIn zero₊ most a
+float : (most : Float) (a : Option Float) → average_within most a ≡ true → IfSome a (In zero₊ most)
 float most None h = tt
 float most (Some x) h = from_zero h
 
@@ -171,7 +157,7 @@ unfolding average_in
 average m factor most h = search (left, right, from_zero, float)
 
 -- ---- the acknowledged rate
-rate : (r : Option Bitrate) → acked_rate_in r ≡ true → RateIn least_acked (nat (10 ^ 14)) r
+rate : (r : Option Bitrate) → acked_rate_in r ≡ true → IfSome r (λ x. In least_acked (nat (10 ^ 14)) x.0)
 rate None h = tt
 rate (Some r) h = in-wider (within_in h) (unfold floats in tt)
 
@@ -208,7 +194,7 @@ acked a h =
     }
 
 -- ---- groups
-group : (g : Option ArrivalGroup) → group_in g ≡ true → InRangeIfAny g
+group : (g : Option ArrivalGroup) → group_in g ≡ true → IfSome g GroupInRange
 group None h = tt
 group (Some g) h = search (left, right, leb-true)
 
@@ -284,7 +270,7 @@ overuse-time (Delta.Negative n) h = leb-true n most_overuse h
 overuse-time (Delta.Positive n) h = leb-true n most_overuse h
 overuse-time Delta.PositiveInfinity h = absurd (is_true false h)
 
-overuse : (o : Option Overuse) → overuse_in o ≡ true → OveruseInRange o
+overuse : (o : Option Overuse) → overuse_in o ≡ true → IfSome o OveruseInRange
 unfolding overuse_in
 overuse None h = tt
 overuse (Some o) h = (search (left, leb-true), search (left, right, overuse-time))
@@ -327,7 +313,7 @@ trendline-sound {t} r = record {
   last-update = r.last-update;
 }
   where
-    overuse-sound : (o : Option Overuse) → OveruseInRange o → SoundOveruse o
+    overuse-sound : (o : Option Overuse) → IfSome o OveruseInRange → SoundOveruse o
     overuse-sound None h = tt
     overuse-sound (Some o) h = h.0
 

@@ -73,21 +73,21 @@ pub least_acked-is : least_acked ≡ decimal 8 10
 least_acked-is = unfold floats in refl
 
 -- ---- kinds of fields
-abbrev pub instant_in : Option ℕ → Bool
-instant_in None = true
-instant_in (Some t) = leb t most_ns
+-- there is no value, or one that passes the test
+abbrev pub is_none_or : {A : Type 0} → (A → Bool) → Option A → Bool
+is_none_or test None = true
+is_none_or test (Some x) = test x
 
-abbrev pub duration_in : Option ℕ → Bool
-duration_in None = true
-duration_in (Some d) = leb d most_ns
+-- an instant or a duration
+abbrev pub ns_in : Option ℕ → Bool
+ns_in o = is_none_or (λ ns. leb ns most_ns) o
 
 -- byte sum as in question 9, and 0 only with an elapsed window of 0
 unfoldable pub sum_in : DataSize → ℕ → Bool
 sum_in sum elapsed = not (B.less sum no_bytes) && bytes_in sum && (B.less no_bytes sum || eqb elapsed 0)
 
 abbrev pub average_within : Float → Option Float → Bool
-average_within most None = true
-average_within most (Some a) = within (lit 0) most a
+average_within most o = is_none_or (λ a. within (lit 0) most a) o
 
 -- a smoothing factor as the Rust sets it, the average in its limit, the variance from 0 to 10^30, the deviation its root
 unfoldable pub average_in : MovingAverage → Float → Float → Bool
@@ -99,8 +99,7 @@ average_in m factor most =
 
 -- ---- the acknowledged rate: windows as in question 3; absent or from 0.8 to 10^14
 abbrev pub acked_rate_in : Option Bitrate → Bool
-acked_rate_in None = true
-acked_rate_in (Some r) = within least_acked most_rate.0 r.0
+acked_rate_in o = is_none_or (λ r. within least_acked most_rate.0 r.0) o
 
 unfoldable pub acked_in : AckedBitrateEstimator → Bool
 acked_in a =
@@ -110,19 +109,17 @@ acked_in a =
     && within (lit 0) most30 a.estimate_var
     && sum_in a.sum a.current_window
     && leb a.current_window most_elapsed
-    && instant_in a.last_update
+    && ns_in a.last_update
 
 -- ---- groups: the times of one are all there, or there is no group, by its type
 abbrev pub group_in : Option ArrivalGroup → Bool
-group_in None = true
-group_in (Some g) =
-    leb g.first_local_send_time most_ns
-    && leb g.first_remote_recv_time most_ns
-    && leb g.last_local_send_time most_ns
-    && leb g.last_remote_recv_time most_ns
+group_in o =
+    is_none_or
+    (λ g. leb g.first_local_send_time most_ns && leb g.first_remote_recv_time most_ns && leb g.last_local_send_time most_ns && leb g.last_remote_recv_time most_ns)
+    o
 
 unfoldable pub groups_in : ArrivalGroupAccumulator → Bool
-groups_in a = instant_in a.send_time_origin && group_in a.previous_group && group_in a.current_group
+groups_in a = ns_in a.send_time_origin && group_in a.previous_group && group_in a.current_group
 
 -- ---- the trendline
 -- a list that rises, or stays, from low to high
@@ -155,16 +152,15 @@ overuse_time_in (Delta.Positive n) = leb n most_overuse
 overuse_time_in Delta.PositiveInfinity = false
 
 unfoldable pub overuse_in : Option Overuse → Bool
-overuse_in None = true
-overuse_in (Some o) = leb o.count max_overuse_count && overuse_time_in o.time_overusing
+overuse_in p = is_none_or (λ o. leb o.count max_overuse_count && overuse_time_in o.time_overusing) p
 
 unfoldable pub trendline_in : TrendlineEstimator → Bool
 trendline_in t =
-    instant_in t.zero_time
+    ns_in t.zero_time
     && history_in t.history
     && delays_in t.delays
     && overuse_in t.overuse
-    && instant_in t.last_threshold_update
+    && ns_in t.last_threshold_update
 
 -- ---- the rate control: rate limits, which the Rust never changes; the average of rates from 0 to 10^14
 unfoldable pub rate_control_in : RateControl → Bool
@@ -173,8 +169,8 @@ rate_control_in c =
     && Ieee.eq c.max_bitrate.0 max_estimate.0
     && within min_estimate.0 max_estimate.0 c.estimated_bitrate.0
     && average_in c.averaged_observed_bitrate observed_bit_rate_smoothing_factor most_rate.0
-    && instant_in c.last_estimate_update
-    && duration_in c.last_rtt
+    && ns_in c.last_estimate_update
+    && ns_in c.last_rtt
 
 -- ---- the delay controller: round-trip average from 0 to 10^9 s
 unfoldable pub control_in : DelayController → Bool
@@ -184,7 +180,7 @@ control_in c =
     && rate_control_in c.rate_control
     && average_in c.smoothed_rtt rtt_smoothing_factor most_round_trip
     && leb c.next_timeout most_ns
-    && instant_in c.last_twcc_report
+    && ns_in c.last_twcc_report
 
 unfoldable pub in_range : Link → Bool
 in_range l = acked_in l.acked && control_in l.control

@@ -6,13 +6,13 @@ ghost use Rattle.std.specs.Float.Ieee as Ieee;
 ghost use Rattle.link_state.specs.State as State;
 
 use acked_bitrate_estimator::AckedBitrateEstimator;
-use arrival_group::{ArrivalGroupAccumulator, ArrivalGroup};
-use average::{MovingAverage};
+use arrival_group::{ArrivalGroup, ArrivalGroupAccumulator};
+use average::MovingAverage;
 use bandwidth::{Bitrate, DataSize};
 use control::DelayController;
 use rate_control::RateControl;
-use time::{TimeDelta};
-use trendline::{Delays, History, TrendlineEstimator, Overuse};
+use time::TimeDelta;
+use trendline::{Delays, History, Overuse, TrendlineEstimator};
 
 #[derive(Clone, Copy)]
 pub struct Link {
@@ -35,24 +35,14 @@ const MOST_31: f64 = 1e31;
 const MOST_ROUND_TRIP: f64 = 1e9;
 
 // ---- kinds of fields
-fn instant_in(t: Option<u64>) -> bool
-    ensures { result ≡ State.instant_in t }
+// An instant or a duration, if there is one.
+fn ns_in(ns: Option<u64>) -> bool
+    ensures { result ≡ State.ns_in ns }
 {
-    match t {
-        None => true,
-        Some(ns) => ns <= MOST_NS,
-    }
+    ns.is_none_or(|ns| ns <= MOST_NS)
 }
 
-fn duration_in(d: Option<u64>) -> bool
-    ensures { result ≡ State.duration_in d }
-{
-    match d {
-        None => true,
-        Some(ns) => ns <= MOST_NS,
-    }
-}
-
+#[tactic(auto, unfolding(crate::specs::State::sum_in))]
 fn sum_in(sum: DataSize, elapsed: u64) -> bool
     ensures { result ≡ State.sum_in sum elapsed }
 {
@@ -64,66 +54,56 @@ fn sum_in(sum: DataSize, elapsed: u64) -> bool
 fn average_within(most: f64, average: Option<f64>) -> bool
     ensures { result ≡ State.average_within most average }
 {
-    match average {
-        None => true,
-        Some(x) => float::within(0.0, most, x),
-    }
+    average.is_none_or(|x| float::within(0.0, most, x))
 }
 
+#[tactic(auto, unfolding(crate::specs::State::average_in))]
 fn average_in(m: MovingAverage, factor: f64, most: f64) -> bool
     ensures { result ≡ State.average_in m factor most }
 {
-    let average = m.average;
-    let average_ok = average_within(most, average);
-    let variance_ok = float::within(0.0, MOST_30, m.variance);
-    let root = sqrt::is_sqrt(m.std, m.variance);
-    (m.smoothing_factor == factor) & average_ok & variance_ok & root
+    (m.smoothing_factor == factor)
+        & average_within(most, m.average)
+        & float::within(0.0, MOST_30, m.variance)
+        & sqrt::is_sqrt(m.std, m.variance)
 }
 
 // ---- the acknowledged rate
 fn acked_rate_in(rate: Option<Bitrate>) -> bool
     ensures { result ≡ State.acked_rate_in rate }
 {
-    match rate {
-        None => true,
-        Some(x) => x.within(Bitrate(0.8), Bitrate::MOST),
-    }
+    rate.is_none_or(|x| x.within(Bitrate(0.8), Bitrate::MOST))
 }
 
+#[tactic(auto, unfolding(crate::specs::State::acked_in))]
 fn acked_in(a: AckedBitrateEstimator) -> bool
     ensures { result ≡ State.acked_in a }
 {
-    let estimate = a.estimate;
-    let sum = a.sum;
-    let last_update = a.last_update;
-    let windows = questions::window_in(a.initial_window) & questions::window_in(a.window);
-    let rate = acked_rate_in(estimate);
-    let variance = float::within(0.0, MOST_30, a.estimate_var);
-    let bytes = sum_in(sum, a.current_window);
-    let instant = instant_in(last_update);
-    windows & rate & variance & bytes & (a.current_window <= 10_000_000_000) & instant
+    questions::window_in(a.initial_window)
+        & questions::window_in(a.window)
+        & acked_rate_in(a.estimate)
+        & float::within(0.0, MOST_30, a.estimate_var)
+        & sum_in(a.sum, a.current_window)
+        & (a.current_window <= 10_000_000_000)
+        & ns_in(a.last_update)
 }
 
 // ---- groups
 fn group_in(group: Option<ArrivalGroup>) -> bool
     ensures { result ≡ State.group_in group }
 {
-    match group {
-        None => true,
-        Some(g) => (g.first_local_send_time <= MOST_NS)
+    group.is_none_or(|g| {
+        (g.first_local_send_time <= MOST_NS)
             & (g.first_remote_recv_time <= MOST_NS)
             & (g.last_local_send_time <= MOST_NS)
-            & (g.last_remote_recv_time <= MOST_NS),
-    }
+            & (g.last_remote_recv_time <= MOST_NS)
+    })
 }
 
+#[tactic(auto, unfolding(crate::specs::State::groups_in))]
 fn groups_in(a: ArrivalGroupAccumulator) -> bool
     ensures { result ≡ State.groups_in a }
 {
-    let origin = a.send_time_origin;
-    let previous = a.previous_group;
-    let current = a.current_group;
-    instant_in(origin) & group_in(previous) & group_in(current)
+    ns_in(a.send_time_origin) & group_in(a.previous_group) & group_in(a.current_group)
 }
 
 // ---- the trendline
@@ -134,49 +114,35 @@ fn timings_in(times: [f64; 20], delays: [f64; 20], n: usize) -> bool
 {
     let mut all = true;
     let mut low = -MOST_TIME;
-    let mut i = 0;
-    while i < n {
-        let x = times[i];
-        let mut one = false;
-        if low <= x {
-            one = float::within(-MOST_31, MOST_31, delays[i]);
-        }
-        all = all & one;
-        low = x;
-        i += 1;
+    for i in 0..n {
+        all &= (low <= times[i]) & float::within(-MOST_31, MOST_31, delays[i]);
+        low = times[i];
     }
     all & (low <= MOST_TIME)
 }
 
+#[tactic(auto, unfolding(crate::specs::State::history_in))]
 fn history_in(h: History) -> bool
     ensures { result ≡ State.history_in h }
 {
-    let times = h.times;
-    let delays = h.delays;
-    let n = h.len;
-    if n > 20 {
-        return false;
+    match h.len {
+        20 => timings_in(h.times, h.delays, 20),
+        n => (n < 20) && timings_in(h.times, h.delays, n),
     }
-    if n == 20 {
-        return timings_in(times, delays, 20);
-    }
-    timings_in(times, delays, n)
 }
 
+#[tactic(auto, unfolding(crate::specs::State::delays_in))]
 fn delays_in(d: Delays) -> bool
     ensures { result ≡ State.delays_in d }
 {
-    let accumulated = float::within(-MOST_30, MOST_30, d.accumulated_delay);
-    let smoothed = float::within(-MOST_31, MOST_31, d.smoothed_delay);
-    let threshold = float::within(
-        Delays::MIN_THRESHOLD_MS,
-        Delays::MAX_THRESHOLD_MS,
-        d.delay_threshold,
-    );
     (d.num_delay_variations <= 1000)
-        & accumulated
-        & smoothed
-        & threshold
+        & float::within(-MOST_30, MOST_30, d.accumulated_delay)
+        & float::within(-MOST_31, MOST_31, d.smoothed_delay)
+        & float::within(
+            Delays::MIN_THRESHOLD_MS,
+            Delays::MAX_THRESHOLD_MS,
+            d.delay_threshold,
+        )
         & (d.previous_trend == d.previous_trend)
 }
 
@@ -191,80 +157,58 @@ fn overuse_time_in(time: TimeDelta) -> bool
     }
 }
 
+#[tactic(auto, unfolding(crate::specs::State::overuse_in))]
 fn overuse_in(overuse: Option<Overuse>) -> bool
     ensures { result ≡ State.overuse_in overuse }
 {
-    match overuse {
-        None => true,
-        Some(o) => {
-            let time = o.time_overusing;
-            (o.count <= 2) & overuse_time_in(time)
-        }
-    }
+    overuse.is_none_or(|o| (o.count <= 2) & overuse_time_in(o.time_overusing))
 }
 
+#[tactic(auto, unfolding(crate::specs::State::trendline_in))]
 fn trendline_in(t: TrendlineEstimator) -> bool
     ensures { result ≡ State.trendline_in t }
 {
-    let zero_time = t.zero_time;
-    let history = t.history;
-    let delays = t.delays;
-    let overuse = t.overuse;
-    let last = t.last_threshold_update;
-    instant_in(zero_time)
-        & history_in(history)
-        & delays_in(delays)
-        & overuse_in(overuse)
-        & instant_in(last)
+    ns_in(t.zero_time)
+        & history_in(t.history)
+        & delays_in(t.delays)
+        & overuse_in(t.overuse)
+        & ns_in(t.last_threshold_update)
 }
 
 // ---- the rate control and the delay controller
+#[tactic(auto, unfolding(crate::specs::State::rate_control_in))]
 fn rate_control_in(c: RateControl) -> bool
     ensures { result ≡ State.rate_control_in c }
 {
-    let low = c.min_bitrate;
-    let high = c.max_bitrate;
-    let estimate = c.estimated_bitrate;
-    let average = c.averaged_observed_bitrate;
-    let last = c.last_estimate_update;
-    let rtt = c.last_rtt;
-    let limits = (low == Bitrate::MIN_ESTIMATE) & (high == Bitrate::MAX_ESTIMATE);
-    let rate = estimate.within(Bitrate::MIN_ESTIMATE, Bitrate::MAX_ESTIMATE);
-    let observed = average_in(
-        average,
-        RateControl::OBSERVED_BIT_RATE_SMOOTHING_FACTOR,
-        Bitrate::MOST.0,
-    );
-    limits & rate & observed & instant_in(last) & duration_in(rtt)
+    (c.min_bitrate == Bitrate::MIN_ESTIMATE)
+        & (c.max_bitrate == Bitrate::MAX_ESTIMATE)
+        & c.estimated_bitrate
+            .within(Bitrate::MIN_ESTIMATE, Bitrate::MAX_ESTIMATE)
+        & average_in(
+            c.averaged_observed_bitrate,
+            RateControl::OBSERVED_BIT_RATE_SMOOTHING_FACTOR,
+            Bitrate::MOST.0,
+        )
+        & ns_in(c.last_estimate_update)
+        & ns_in(c.last_rtt)
 }
 
 impl Link {
     // Part by part, each read when its turn comes.
+    #[tactic(auto, unfolding(crate::specs::State::in_range, crate::specs::State::control_in))]
     pub fn in_range(self) -> bool
         ensures { result ≡ State.in_range self }
     {
-        let acked = self.acked;
-        if !acked_in(acked) {
-            return false;
-        }
-        let groups = self.control.arrival_group_accumulator;
-        if !groups_in(groups) {
-            return false;
-        }
-        let trendline = self.control.trendline_estimator;
-        if !trendline_in(trendline) {
-            return false;
-        }
-        let rate_control = self.control.rate_control;
-        if !rate_control_in(rate_control) {
-            return false;
-        }
-        let rtt = self.control.smoothed_rtt;
-        if !average_in(rtt, DelayController::RTT_SMOOTHING_FACTOR, MOST_ROUND_TRIP) {
-            return false;
-        }
-        let control = self.control;
-        let last = control.last_twcc_report;
-        (control.next_timeout <= MOST_NS) & instant_in(last)
+        acked_in(self.acked)
+            && groups_in(self.control.arrival_group_accumulator)
+            && trendline_in(self.control.trendline_estimator)
+            && rate_control_in(self.control.rate_control)
+            && average_in(
+                self.control.smoothed_rtt,
+                DelayController::RTT_SMOOTHING_FACTOR,
+                MOST_ROUND_TRIP,
+            )
+            && (self.control.next_timeout <= MOST_NS)
+            && ns_in(self.control.last_twcc_report)
     }
 }

@@ -65,7 +65,11 @@ pub fn read_u16(bytes: &[u8], at: usize) -> u16
     if bytes.len() <= at {
         return 0;
     }
-    let low = if bytes.len() - at < 2 { 0 } else { bytes[at + 1] };
+    let low = if bytes.len() - at < 2 {
+        0
+    } else {
+        bytes[at + 1]
+    };
     u16::from_be_bytes([bytes[at], low])
 }
 

@@ -1,4 +1,4 @@
-use Prim.Native.Nat.{◌≤◌, ◌-◌}
+use Prim.Native.Nat.{◌≤◌}
 use mathlib.Core.Bool.{◌&&◌}
 use mathlib.Core.Path.{◌≡◌}
 use lib.ListN.{length, take, drop}
@@ -14,6 +14,3 @@ invariant-loop-i l =
     (l.all && (State.ascends l.low (drop l.i (take l.n l.times)) State.most_time && State.all_within State.most31 (drop l.i (take l.n l.delays))))
     ≡ (State.ascends l.initial.low (take l.n l.times) State.most_time && State.all_within State.most31 (take l.n l.delays))
     )
-
-abbrev pub decreases-loop-i : goal.decreases-loop-i
-decreases-loop-i l = l.n - l.i

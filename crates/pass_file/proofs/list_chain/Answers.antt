@@ -37,7 +37,7 @@ passed c =
                 rw (v.number-is, v.acked-is, v.control-is)
                 (report-accepted bytes c.loop-waiting.waiting c.loop-waiting.acked c.loop-waiting.control y is w.probe-probe.ensures c.receive-now.ensures j v.in-Ok.is v.current_estimate.ensures (rw (v.sends.ensures, v.remotes.ensures, v.receives.ensures) at v.update-control.ensures))
             | in-Err v ↦
-                rw (v.number-is, v.acked-is, v.control-is, v.number-number.ensures)
+                rw (v.number-is, v.acked-is, v.control-is, v.from-number.ensures)
                 (report-refused bytes c.loop-waiting.waiting c.loop-waiting.acked c.loop-waiting.control y is w.probe-probe.ensures c.receive-now.ensures j v.in-Err.is)
           ] in
           same-progress w.out-is w.waiting-is (rw (w.acked-is, w.control-is)) w.at-is
@@ -51,7 +51,7 @@ passed c =
                 rw (v.number-is, v.control-is)
                 (timeout-accepted bytes c.loop-waiting.waiting c.loop-waiting.acked c.loop-waiting.control y is.1 c.receive-now.ensures _ w.timeout.ensures v.in-Ok-timeout.is v.current_estimate-in-Ok-timeout.ensures v.handle_timeout-control.ensures)
             | in-Err-timeout v ↦
-                rw (v.number-is, v.control-is, v.number-number-in-Err-timeout.ensures)
+                rw (v.number-is, v.control-is, v.from-number-in-Err-timeout.ensures)
                 (timeout-refused bytes c.loop-waiting.waiting c.loop-waiting.acked c.loop-waiting.control y is.1 c.receive-now.ensures _ w.timeout.ensures v.in-Err-timeout.is)
           ] in
           let put = w.put-at-in-Timeout.ensures in

@@ -1,5 +1,0 @@
--- The arm of a duration is its clause of the definition.
-use Rattle.link_state.proofs.duration_in.Goals as goal
-
-pub returns-in-Some : goal.returns-in-Some
-returns-in-Some c = cc
