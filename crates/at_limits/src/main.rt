@@ -7,6 +7,8 @@ use arrival_group::{ArrivalGroup, InterGroupDelayDelta};
 use bandwidth::{BandwidthUsage, Bitrate, DataSize};
 use control::DelayController;
 use link_state::Link;
+use listing_line::Line;
+use pass_records::Record;
 use questions::Report;
 use receive_order::Keys;
 use std::io;
@@ -23,22 +25,13 @@ fn number(rt: &impl Print, n: u64) -> io::Result<()> {
 
 fn yes_or_no(rt: &impl Print, yes: bool) -> io::Result<()> {
     if yes {
-        return text(rt, b" yes");
+        text(rt, b" yes")
+    } else {
+        text(rt, b" no")
     }
-    text(rt, b" no")
 }
 
 // ---- C's calls on a lent link
-fn same(a: &[u64; 100], b: &[u64; 100]) -> bool {
-    let mut same = true;
-    let mut i = 0;
-    while i < 100 {
-        same = same & (a[i] == b[i]);
-        i += 1;
-    }
-    same
-}
-
 // Whether an opening gives C a code, and words are stored only with 0.
 fn open(
     rt: &impl Print,
@@ -51,9 +44,9 @@ fn open(
     let mut link = [7u64; 100];
     let code = c_api::hornetpewter_open(&mut link, start_bitrate, initial_window, window);
     if code == 0 {
-        return yes_or_no(rt, (expected == 0) & (link[0] == 1) & !same(&link, &before));
+        return yes_or_no(rt, (expected == 0) & (link[0] == 1) & (link != before));
     }
-    yes_or_no(rt, (code == expected) & same(&link, &before))
+    yes_or_no(rt, (code == expected) & (link == before))
 }
 
 fn openings(rt: &impl Print) -> io::Result<()> {
@@ -117,7 +110,7 @@ fn left(
     yes_or_no(
         rt,
         (code == expected)
-            & same(link, before)
+            & (*link == *before)
             & (bitrate == rate)
             & (hypothesis == tag)
             & (next_timeout == next),
@@ -363,10 +356,10 @@ fn reads(rt: &impl Print) -> io::Result<()> {
 // ---- lines
 // What was written up to a place.
 fn shown(rt: &impl Print, out: &[u8], end: usize) -> io::Result<()> {
-    if end > out.len() {
-        return Ok(());
+    match out.get(..end) {
+        None => Ok(()),
+        Some(written) => text(rt, written),
     }
-    text(rt, &out[0..end])
 }
 
 fn line(
@@ -377,7 +370,14 @@ fn line(
     next_timeout: u64,
 ) -> io::Result<()> {
     let bits = 0x0123_4567_89ab_cdef;
-    let end = listing_line::put_line(out, 0, record, refusal, b'O', bits, next_timeout);
+    let line = Line {
+        record_number: record,
+        refusal,
+        letter: b'O',
+        bits,
+        next_timeout,
+    };
+    let end = line.put(out, 0);
     shown(rt, out, end)
 }
 
@@ -563,7 +563,7 @@ fn order(rt: &impl Print) -> io::Result<()> {
 
 // How many bytes record k has, in a file of one record.
 fn record(rt: &impl Print, k: usize) -> io::Result<()> {
-    number(rt, pass_records::record_at(&[0u8; 48], k).len() as u64)
+    number(rt, Record::of(&[0u8; 48], k).bytes.len() as u64)
 }
 
 fn delays(rt: &impl Print) -> io::Result<()> {

@@ -51,39 +51,21 @@ fn read_words(input: &mut impl Read, words: &mut [u64]) -> io::Result<bool> {
     let mut bytes = [0u8; 1600];
     let bytes = &mut bytes[0..8 * n];
     let whole = reading::read_full(input, bytes)? == 8 * n;
-    let mut i = 0;
-    while i < n {
-        words[i] = le_bytes::read_u64(bytes, 8 * i);
-        i += 1;
+    for (i, word) in words.iter_mut().enumerate() {
+        *word = le_bytes::read_u64(bytes, 8 * i);
     }
     Ok(whole)
 }
 
-fn same(a: &[u64; 100], b: &[u64; 100]) -> bool {
-    let mut same = true;
-    let mut i = 0;
-    while i < 100 {
-        same = same & (a[i] == b[i]);
-        i += 1;
-    }
-    same
-}
-
 fn probe(flag: u64, b: u64) -> Option<Bitrate> {
-    if flag == 1 {
-        return Some(Bitrate(float_bits::from_bits(b)));
-    }
-    None
+    (flag == 1).then(|| Bitrate(float_bits::from_bits(b)))
 }
 
 // How many packets a case has.
 fn packets(i: Case) -> usize
     ensures { result ≤ 40 }
 {
-    if i.op != 92 {
-        return 0;
-    }
-    if i.d > ROOM {
+    if (i.op != 92) | (i.d > ROOM) {
         return 0;
     }
     i.d as usize
@@ -91,13 +73,10 @@ fn packets(i: Case) -> usize
 
 // The n numbers from a start on. Where there are not so many, which no case reaches, all.
 fn part(lists: &[u64], start: usize, n: usize) -> &[u64] {
-    if start > lists.len() {
-        return lists;
-    }
-    if n > lists.len() - start {
-        return lists;
-    }
-    &lists[start..start + n]
+    lists
+        .get(start..)
+        .and_then(|rest| rest.get(..n))
+        .unwrap_or(lists)
 }
 
 fn report(link: Link, lists: &[u64], i: Case) -> Called {
@@ -141,30 +120,27 @@ impl Done {
     }
 
     fn lend(self, input: &mut impl Read) -> io::Result<Self> {
-        let mut done = self;
         let mut words = [0u64; 100];
         let whole = read_words(input, &mut words)?;
         let link = link_words::load(&words);
-        done.link = link;
-        done.lent = whole & link_words::formed(&words) & same(&link_words::words(link), &words);
-        Ok(done)
+        let lent = whole & link_words::formed(&words) & (link_words::words(link) == words);
+        Ok(Self { link, lent, ..self })
     }
 
     fn run(self, input: &mut impl Read, i: Case) -> io::Result<Self> {
-        let mut done = self;
         let n = packets(i);
         let mut room = [0u64; 200];
         let mut after = [0u64; 100];
         let lists = &mut room[0..5 * n];
         let whole = read_words(input, lists)?;
-        let called = call(done.link, lists, i);
-        let link = called.link;
-        let answer = called.answer;
-        let whole = done.lent & whole & read_words(input, &mut after)?;
-        let agrees = whole & i.agrees(answers(answer)) & same(&link_words::words(link), &after);
-        done.link = link;
-        done.counts = done.counts.counted(n as u64, agrees);
-        Ok(done)
+        let Called { answer, link } = call(self.link, lists, i);
+        let whole = self.lent & whole & read_words(input, &mut after)?;
+        let agrees = whole & i.agrees(answers(answer)) & (link_words::words(link) == after);
+        Ok(Self {
+            link,
+            counts: self.counts.counted(n as u64, agrees),
+            ..self
+        })
     }
 }
 

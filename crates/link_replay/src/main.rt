@@ -11,7 +11,6 @@ use link::{Called, Opening};
 use link_state::Link;
 use questions::Report;
 use std::io;
-use std::num::wrapping_sub_usize;
 use time::TimeDelta;
 use trendline::TrendlineEstimator;
 
@@ -35,61 +34,45 @@ fn usage(u: BandwidthUsage) -> u64 {
 // Hypothesis with the counts of variations and of overuse.
 fn trend_word(t: TrendlineEstimator) -> u64 {
     let d = t.delays;
-    let overuse = t.overuse;
     let count = usage(t.hypothesis()) | (d.num_delay_variations << 8);
-    match overuse {
+    match t.overuse {
         None => count,
-        Some(o) => {
-            let time = o.time_overusing;
-            count | (o.count << 32) | (delta_tag(time) << 40)
-        }
+        Some(o) => count | (o.count << 32) | (delta_tag(o.time_overusing) << 40),
     }
 }
 
 fn acked_bits(rate: Option<Bitrate>) -> u64 {
-    match rate {
-        None => 0,
-        Some(x) => float_bits::to_bits(x.as_f64()),
-    }
+    rate.map_or(0, |x| float_bits::to_bits(x.as_f64()))
 }
 
 fn shown(number: u64, link: Link) -> [u64; 6] {
     let control = link.control;
     let trendline = control.trendline_estimator;
-    let delays = trendline.delays;
-    let acked = link.acked;
-    let rate = acked.current_estimate();
     [
         number,
         float_bits::to_bits(control.last_estimate().as_f64()),
         trend_word(trendline),
         control.poll_timeout(),
-        float_bits::to_bits(delays.delay_threshold),
-        acked_bits(rate),
+        float_bits::to_bits(trendline.delays.delay_threshold),
+        acked_bits(link.acked.current_estimate()),
     ]
 }
 
 fn probe(flag: u64, b: u64) -> Option<Bitrate> {
-    if flag == 1 {
-        return Some(Bitrate(float_bits::from_bits(b)));
-    }
-    None
+    (flag == 1).then(|| Bitrate(float_bits::from_bits(b)))
 }
 
 // A list's length: one less for the list that is short.
 fn length(n: usize, short: u64, list: u64) -> usize {
-    wrapping_sub_usize(n, ((short == list) & (n > 0)) as usize)
+    n.saturating_sub((short == list) as usize)
 }
 
 // The n numbers from a start on. Where there are not so many, which no case reaches, all.
 fn part(lists: &[u64], start: usize, n: usize) -> &[u64] {
-    if start > lists.len() {
-        return lists;
-    }
-    if n > lists.len() - start {
-        return lists;
-    }
-    &lists[start..start + n]
+    lists
+        .get(start..)
+        .and_then(|rest| rest.get(..n))
+        .unwrap_or(lists)
 }
 
 fn report(link: Link, lists: &[u64], n: usize, i: Case) -> Called {
@@ -106,28 +89,26 @@ fn report(link: Link, lists: &[u64], n: usize, i: Case) -> Called {
 }
 
 fn put(lists: &mut [u64], at: usize, x: u64) {
-    if at < lists.len() {
-        lists[at] = x;
+    if let Some(place) = lists.get_mut(at) {
+        *place = x;
     }
 }
 
 // How many packets wait after a case; a report takes all.
 fn next_waiting(lists: &mut [u64], n: usize, i: Case) -> usize {
-    if i.op == 92 {
-        return 0;
+    match i.op {
+        92 => 0,
+        91 if n >= 1100 => 1101,
+        91 => {
+            put(lists, n, i.a);
+            put(lists, n + 1100, i.b);
+            put(lists, n + 2200, i.c);
+            put(lists, n + 3300, i.d);
+            put(lists, n + 4400, i.e);
+            n + 1
+        }
+        _ => n,
     }
-    if i.op != 91 {
-        return n;
-    }
-    if n >= 1100 {
-        return 1101;
-    }
-    put(lists, n, i.a);
-    put(lists, n + 1100, i.b);
-    put(lists, n + 2200, i.c);
-    put(lists, n + 3300, i.d);
-    put(lists, n + 4400, i.e);
-    n + 1
 }
 
 // The link after a case, and the number of the question that turned the call down, or 0.
@@ -158,16 +139,12 @@ fn called(called: Called) -> Numbered {
 }
 
 fn next(link: Link, lists: &[u64], n: usize, i: Case) -> Numbered {
-    if i.op == 90 {
-        return opening(link, i);
+    match i.op {
+        90 => opening(link, i),
+        92 => called(report(link, lists, n, i)),
+        93 => called(link::timeout(link, i.a)),
+        _ => Numbered { link, number: 0 },
     }
-    if i.op == 92 {
-        return called(report(link, lists, n, i));
-    }
-    if i.op == 93 {
-        return called(link::timeout(link, i.a));
-    }
-    Numbered { link, number: 0 }
 }
 
 // Our answers to a case. A packet that finds no room differs from the oracle's.
@@ -198,14 +175,14 @@ impl Done {
     }
 
     fn run(self, lists: &mut [u64], i: Case) -> Self {
-        let mut done = self;
-        let next = next(done.link, lists, done.waiting, i);
-        let link = next.link;
-        done.link = link;
-        done.waiting = next_waiting(lists, done.waiting, i);
-        let agrees = i.agrees(words(next, done.waiting, i));
-        done.counts = done.counts.counted((i.op == 91) as u64, agrees);
-        done
+        let next = next(self.link, lists, self.waiting, i);
+        let waiting = next_waiting(lists, self.waiting, i);
+        let agrees = i.agrees(words(next, waiting, i));
+        Self {
+            link: next.link,
+            waiting,
+            counts: self.counts.counted((i.op == 91) as u64, agrees),
+        }
     }
 }
 

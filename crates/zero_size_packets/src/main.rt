@@ -7,17 +7,13 @@ use link::{Called, Opening};
 use link_state::Link;
 use questions::Report;
 use std::io;
-use std::num::wrapping_add_u64;
 
 // How long a packet that was sent at so many ms waits, in ms: from 3 to 4 s each one waits 3 ms longer than the one before.
 fn queue(send: u64) -> u64 {
-    if send < 3000 {
-        return 0;
+    if (3000..4000).contains(&send) {
+        return ((send - 3000) / 5 + 1) * 3;
     }
-    if send >= 4000 {
-        return 0;
-    }
-    ((send - 3000) / 5 + 1) * 3
+    0
 }
 
 // ns of so many ms after the link was opened.
@@ -30,10 +26,7 @@ fn ns(ms: u64) -> u64 {
 
 // When packet i of a report is sent: one every 5 ms, 10 a report.
 fn sent(report: u64, i: u64) -> u64 {
-    if report > 2000 {
-        return 0;
-    }
-    if i > 10 {
+    if (report > 2000) | (i > 10) {
         return 0;
     }
     report * 50 + i * 5
@@ -55,21 +48,6 @@ fn size(send: u64, first_size: u64) -> u64 {
     1200
 }
 
-// With packet i, sent at so many ms.
-fn with_packet(lists: Lists, i: usize, send: u64, first_size: u64) -> Lists {
-    let mut l = lists;
-    if i >= 10 {
-        return l;
-    }
-    let arrival = wrapping_add_u64(send, queue(send));
-    l.sequences[i] = send;
-    l.sizes[i] = size(send, first_size);
-    l.sends[i] = ns(send);
-    l.remotes[i] = ns(wrapping_add_u64(arrival, 20));
-    l.receives[i] = ns(wrapping_add_u64(arrival, 40));
-    l
-}
-
 fn packets(report: u64, first_size: u64) -> Lists {
     let mut lists = Lists {
         sequences: [0; 10],
@@ -79,7 +57,13 @@ fn packets(report: u64, first_size: u64) -> Lists {
         receives: [0; 10],
     };
     for i in 0..10usize {
-        lists = with_packet(lists, i, sent(report, i as u64), first_size);
+        let send = sent(report, i as u64);
+        let arrival = send.wrapping_add(queue(send));
+        lists.sequences[i] = send;
+        lists.sizes[i] = size(send, first_size);
+        lists.sends[i] = ns(send);
+        lists.remotes[i] = ns(arrival.wrapping_add(20));
+        lists.receives[i] = ns(arrival.wrapping_add(40));
     }
     lists
 }
@@ -99,7 +83,7 @@ fn report(lists: Lists, moment: u64, link: Link) -> Called {
 
 // When a report is taken: 100 ms after its first packet was sent.
 fn taken(report: u64) -> u64 {
-    ns(wrapping_add_u64(sent(report, 0), 100))
+    ns(sent(report, 0).wrapping_add(100))
 }
 
 // In bps.
@@ -109,13 +93,7 @@ fn estimate(link: Link) -> u64 {
 }
 
 fn is_shown(number: u64) -> bool {
-    (number == 19)
-        | (number == 59)
-        | (number == 79)
-        | (number == 199)
-        | (number == 399)
-        | (number == 799)
-        | (number == 1199)
+    matches!(number, 19 | 59 | 79 | 199 | 399 | 799 | 1199)
 }
 
 // What stands after a report, where it is shown.
@@ -137,7 +115,7 @@ struct State {
 fn next(rt: &impl Print, number: u64, first_size: u64, state: State) -> io::Result<State> {
     let called = report(packets(number, first_size), taken(number), state.link);
     let link = called.link;
-    let refused = wrapping_add_u64(state.refused, called.answer.is_err() as u64);
+    let refused = state.refused.wrapping_add(called.answer.is_err() as u64);
     show(rt, number, estimate(link), refused)?;
     Ok(State { link, refused })
 }

@@ -1,9 +1,0 @@
--- `lent_replay::same` ends: each turn leaves one word less.
-use Rattle.std.proofs.Common.{◌≤◌, ◌-◌}
-use Rattle.lent_replay.proofs.same.Given as goal
-
-abbrev pub invariant-loop-i : goal.invariant-loop-i
-invariant-loop-i l = l.i ≤ 100
-
-abbrev pub decreases-loop-i : goal.decreases-loop-i
-decreases-loop-i l = 100 - l.i
