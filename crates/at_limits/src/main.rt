@@ -7,6 +7,8 @@ use arrival_group::{ArrivalGroup, InterGroupDelayDelta};
 use bandwidth::{BandwidthUsage, Bitrate, DataSize, OptionBitrate};
 use control::DelayController;
 use link_state::Link;
+use listing_line::Line;
+use pass_records::Record;
 use std::io;
 use time::{OptionInstant, TimeDelta, Timestamp};
 use trendline::{Delays, TrendlineEstimator};
@@ -375,7 +377,14 @@ fn line(
     next_timeout: u64,
 ) -> io::Result<()> {
     let bits = 0x0123_4567_89ab_cdef;
-    let end = listing_line::put_line(out, 0, record, refusal, b'O', bits, next_timeout);
+    let line = Line {
+        record_number: record,
+        refusal,
+        letter: b'O',
+        bits,
+        next_timeout,
+    };
+    let end = line.put(out, 0);
     shown(rt, out, end)
 }
 
@@ -559,7 +568,7 @@ fn order(rt: &impl Print) -> io::Result<()> {
 
 // How many bytes record k has, in a file of one record.
 fn record(rt: &impl Print, k: usize) -> io::Result<()> {
-    number(rt, pass_records::record_at(&[0u8; 48], k).len() as u64)
+    number(rt, Record::of(&[0u8; 48], k).bytes.len() as u64)
 }
 
 fn delays(rt: &impl Print) -> io::Result<()> {
