@@ -11,33 +11,27 @@ use std::io::Read;
 // More than any case needs.
 const ROOM: usize = 65_537 * 48;
 
-fn put(file: &mut [u8], at: usize, byte: u8) {
-    if at < file.len() {
-        file[at] = byte;
+// The bytes of record 1 that a case has.
+fn put_first(file: &mut [u8], next: u64, kind: u64) {
+    let next = next.to_le_bytes();
+    let kind = kind.to_le_bytes();
+    if let Some(first) = file.first_chunk_mut::<5>() {
+        *first = [next[0], next[1], next[2], 0, kind[0]];
     }
 }
 
-// The bytes of record 1 that a case has.
-fn put_first(file: &mut [u8], next: u64, kind: u64) {
-    put(file, 0, (next % 256) as u8);
-    put(file, 1, (next / 256 % 256) as u8);
-    put(file, 2, (next / 65_536 % 256) as u8);
-    put(file, 4, (kind % 256) as u8);
-}
-
 fn put_timeouts(file: &mut [u8]) {
-    put(file, 1_364 * 48 + 4, 3);
-    put(file, 1_365 * 48 + 4, 3);
-    put(file, 65_534 * 48 + 4, 3);
+    for record in [1_364, 1_365, 65_534] {
+        if let Some(kind) = file.get_mut(record * 48 + 4) {
+            *kind = 3;
+        }
+    }
 }
 
 // A number, or the opposite of the number of a question, as C gets it.
 fn code(question: u64, number: u64) -> i64 {
     match question {
-        10 => -10,
-        11 => -11,
-        12 => -12,
-        13 => -13,
+        10..=13 => -(question as i64),
         _ => (number % 4_294_967_296) as i64,
     }
 }
@@ -55,13 +49,10 @@ fn compared(c: Case, file: &mut [u8], out: &mut [u8]) -> bool {
     let bytes = c.a as usize;
     let room = c.d as usize;
     put_first(file, c.b, c.c);
-    if file.len() < bytes {
+    let (Some(file), Some(out)) = (file.get(..bytes), out.get_mut(..room)) else {
         return false;
-    }
-    if out.len() < room {
-        return false;
-    }
-    agrees(c, &file[0..bytes], &mut out[0..room])
+    };
+    agrees(c, file, out)
 }
 
 // Every case of standard input.

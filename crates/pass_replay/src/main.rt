@@ -5,7 +5,7 @@
 #![tactic(auto)]
 
 use cases::Counts;
-use pass_file::Listed;
+use pass_records::FileRefusal;
 use std::io;
 use std::io::Read;
 
@@ -31,65 +31,37 @@ struct Header {
     packets: u32,
 }
 
-fn unwrite(out: &mut [u8]) {
-    let mut i = 0;
-    while i < out.len() {
-        out[i] = UNWRITTEN;
-        i += 1;
-    }
+fn unwritten(out: &[u8]) -> bool {
+    out.iter().all(|byte| *byte == UNWRITTEN)
 }
 
-// Whether the output is unwritten from a place on.
-fn unwritten(out: &[u8], from: usize) -> bool {
-    let mut same = true;
-    let mut i = from;
-    while i < out.len() {
-        same = same & (out[i] == UNWRITTEN);
-        i += 1;
-    }
-    same
-}
-
-// Whether the output has a text at a place.
-fn has(out: &[u8], at: usize, text: &[u8]) -> bool {
-    if out.len() < at {
-        return false;
-    }
-    if out.len() - at < text.len() {
-        return false;
-    }
-    let mut same = true;
-    let mut i = 0;
-    while i < text.len() {
-        same = same & (out[at + i] == text[i]);
-        i += 1;
-    }
-    same
-}
-
-// Whether the next n bytes of standard input, at most a part, are the output's at a place.
-fn reads(input: &mut impl Read, out: &[u8], at: usize, n: usize) -> io::Result<bool> {
-    if n > PART {
-        return Ok(false);
-    }
+// Whether the next bytes of standard input are these, at most a part.
+fn reads(input: &mut impl Read, bytes: &[u8]) -> io::Result<bool> {
     let mut part = [0u8; PART];
-    let part = &mut part[0..n];
-    Ok((reading::read_full(input, part)? == n) & has(out, at, part))
+    let Some(part) = part.get_mut(..bytes.len()) else {
+        return Ok(false);
+    };
+    Ok((reading::read_full(input, part)? == bytes.len()) & (&*part == bytes))
 }
 
 // Whether the output starts with so many bytes of standard input, and is unwritten after them.
 fn holds(input: &mut impl Read, out: &[u8], bytes: usize) -> io::Result<bool> {
-    let mut same = true;
-    let mut at = 0;
-    while PART <= bytes - at {
-        same = same & reads(input, out, at, PART)?;
-        at += PART;
+    let Some((listing, rest)) = out.split_at_checked(bytes) else {
+        return Ok(false);
+    };
+    for part in listing.chunks(PART) {
+        if !reads(input, part)? {
+            return Ok(false);
+        }
     }
-    Ok(same & reads(input, out, at, bytes - at)? & unwritten(out, bytes))
+    Ok(unwritten(rest))
 }
 
-fn answers(listed: Listed, number: u64, bytes: usize) -> bool {
-    (listed.number() == number) & (listed.bytes() == bytes)
+fn answers(listed: Result<usize, FileRefusal>, number: u64, bytes: usize) -> bool {
+    match listed {
+        Ok(listing) => (number == 0) & (listing == bytes),
+        Err(refusal) => (number == u64::from(refusal)) & (bytes == 0),
+    }
 }
 
 // Whether a file of up to 1,365 records gets under that limit what it got, and a longer one 10.
@@ -98,13 +70,12 @@ fn agrees_below(file: &[u8], out: &[u8], number: u64, bytes: usize) -> bool {
     let mut other = [UNWRITTEN; SHORT_ROOM];
     if file.len() > SHORT_RECORDS as usize * pass_records::RECORD_BYTES {
         let listed = pass_file::list(file, &mut other, SHORT_RECORDS);
-        return answers(listed, 10, 0) & unwritten(&other, 0);
+        return answers(listed, 10, 0) & unwritten(&other);
     }
-    if room > SHORT_ROOM {
+    let Some(other) = other.get_mut(..room) else {
         return false;
-    }
-    let other = &mut other[0..room];
-    answers(pass_file::list(file, other, SHORT_RECORDS), number, bytes) & has(out, 0, other)
+    };
+    answers(pass_file::list(file, other, SHORT_RECORDS), number, bytes) & out.starts_with(other)
 }
 
 fn read_header(header: &[u8]) -> Header {
@@ -123,16 +94,11 @@ fn compared(input: &mut impl Read, c: Header, file: &mut [u8], out: &mut [u8]) -
     let room = c.output;
     let bytes = c.listing;
     let number = c.number as u64;
-    if n > file.len() {
+    let (Some(file), Some(out)) = (file.get_mut(..n), out.get_mut(..room)) else {
         return Ok(false);
-    }
-    if room > out.len() {
-        return Ok(false);
-    }
-    let file = &mut file[0..n];
-    let out = &mut out[0..room];
+    };
     let read = reading::read_full(input, file)? == n;
-    unwrite(out);
+    out.fill(UNWRITTEN);
     let listed = pass_file::list(file, out, pass_records::MOST_RECORDS);
     let same = answers(listed, number, bytes) & holds(input, out, bytes)?;
     Ok(read & same & agrees_below(file, out, number, bytes))
