@@ -77,8 +77,8 @@ impl Window {
             return None;
         }
         Some(Sample {
-            rate: self.sum.div(window),
-            is_small: self.sum.lt(AckedBitrateEstimator::SMALL_SAMPLE_THRESHOLD),
+            rate: self.sum / window,
+            is_small: self.sum < AckedBitrateEstimator::SMALL_SAMPLE_THRESHOLD,
         })
     }
 
@@ -88,12 +88,12 @@ impl Window {
     {
         if self.elapsed < window {
             return Window {
-                sum: self.sum.add(size),
+                sum: self.sum + size,
                 ..self
             };
         }
         Window {
-            sum: DataSize::ZERO.add(size),
+            sum: DataSize::ZERO + size,
             elapsed: self.elapsed - window,
         }
     }
@@ -120,7 +120,9 @@ pub fn weigh(estimate: f64, variance: f64, sample: f64, is_small: bool) -> Weigh
     let mean = (sample_var * estimate + pred_var * sample) / (sample_var + pred_var);
     let floored = float::max(mean, AckedBitrateEstimator::ESTIMATE_FLOOR);
     Weighed {
-        estimate: std::num::nearest_u64_to_f64(float::as_u64(float::ceil(floored))),
+        estimate: std::num::nearest_u64_to_f64(std::num::saturating_f64_to_u64(float::ceil(
+            floored,
+        ))),
         variance: (sample_var * pred_var) / (sample_var + pred_var),
     }
 }

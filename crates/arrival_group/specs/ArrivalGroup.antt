@@ -8,7 +8,6 @@ use Rattle.time.specs.declared.TimeDelta.TheVariants.{Positive}
 use Rattle.arrival_group.specs.declared.ArrivalGroup.{ArrivalGroup}
 use Rattle.arrival_group.specs.declared.Belongs.{Belongs}
 use Rattle.arrival_group.specs.declared.Belongs.TheVariants.{Yes, NewGroup, Skipped}
-use Rattle.arrival_group.specs.declared.Added.{Added}
 use Rattle.arrival_group.specs.declared.InterGroupDelayDelta.{InterGroupDelayDelta}
 use Rattle.arrival_group.specs.declared.ArrivalGroupAccumulator.{ArrivalGroupAccumulator}
 use Rattle.arrival_group.specs.declared.Accumulated.{Accumulated}
@@ -57,12 +56,13 @@ with_packet g send remote =
       last_remote_recv_time = max g.last_remote_recv_time remote;
     }
 
-abbrev pub add_as : Belongs → ArrivalGroup → ℕ → ℕ → Added
-add_as Yes g send remote = record { group = with_packet g send remote; need_new_group = false }
-add_as NewGroup g send remote = record { group = g; need_new_group = true }
-add_as Skipped g send remote = record { group = g; need_new_group = false }
+-- the group after a packet; none where the packet needs a new one
+abbrev pub add_as : Belongs → ArrivalGroup → ℕ → ℕ → Option ArrivalGroup
+add_as Yes g send remote = Some (with_packet g send remote)
+add_as NewGroup g send remote = None
+add_as Skipped g send remote = Some g
 
-unfoldable pub add_packet : ArrivalGroup → ℕ → ℕ → Added
+unfoldable pub add_packet : ArrivalGroup → ℕ → ℕ → Option ArrivalGroup
 add_packet g send remote = add_as (belongs_to_group g send remote) g send remote
 
 -- the lengths from a group to a later one, by their last instants
@@ -99,14 +99,15 @@ new_accumulated origin previous current delta =
       delta = delta;
     }
 
+abbrev pub accumulate_added : Option ArrivalGroup → ArrivalGroup → Option ArrivalGroup → ℕ → ℕ → ℕ → Accumulated
+accumulate_added None current previous origin send remote = new_accumulated origin (Some current) (new send remote) (delta previous current)
+accumulate_added (Some group) current previous origin send remote = new_accumulated origin previous group None
+
 -- the first packet starts a group; one that needs a new group closes the current one
 unfoldable pub accumulate_rounded : Option ArrivalGroup → Option ArrivalGroup → ℕ → ℕ → ℕ → Accumulated
 accumulate_rounded None previous origin send remote = new_accumulated origin previous (new send remote) None
 accumulate_rounded (Some current) previous origin send remote =
-    let added = add_packet current send remote in
-    cond added.need_new_group
-    (new_accumulated origin (Some current) (new send remote) (delta previous current))
-    (new_accumulated origin previous added.group None)
+    accumulate_added (add_packet current send remote) current previous origin send remote
 
 -- a packet sent before the first one joins no group
 unfoldable pub accumulate_packet : ArrivalGroupAccumulator → ℕ → ℕ → Accumulated

@@ -15,6 +15,7 @@ use Rattle.arrival_group.specs.declared.InterGroupDelayDelta.{InterGroupDelayDel
 use Rattle.arrival_group.specs.declared.ArrivalGroupAccumulator.{ArrivalGroupAccumulator}
 use Rattle.arrival_group.specs.declared.Accumulated.{Accumulated}
 use Rattle.arrival_group.specs.ArrivalGroup.{
+  accumulate_added,
   accumulate_packet,
   accumulate_rounded,
   add_as,
@@ -91,11 +92,11 @@ measured x y v w =
 
 -- a packet whose send instant is rounded
 module _ {S R origin send remote : ℕ} (o : origin ≤ S) (h : send ≤ S + 500000) (k : remote ≤ R) where
-  added-bounded : {g : ArrivalGroup} (b : Belongs) → Bounded S R g → Bounded S R (add_as b g send remote).group
+  added-bounded : {g : ArrivalGroup} (b : Belongs) → Bounded S R g → BoundedIfAny S R (add_as b g send remote)
   unfolding with_packet
   added-bounded Yes w =
       record { first-send = w.first-send; first-remote = w.first-remote; last-send = omega arith; last-remote = omega arith }
-  added-bounded NewGroup w = w
+  added-bounded NewGroup w = tt
   added-bounded Skipped w = w
 
   new-bounded : Bounded S R (new send remote)
@@ -104,10 +105,11 @@ module _ {S R origin send remote : ℕ} (o : origin ≤ S) (h : send ≤ S + 500
   rounded-sound : (current previous : Option ArrivalGroup) → BoundedIfAny S R current → BoundedIfAny S R previous → Sound S R (accumulate_rounded current previous origin send remote).accumulator
   unfolding accumulate_rounded add_packet
   rounded-sound None previous w v = record { origin = o; previous = v; current = new-bounded }
-  rounded-sound (Some g) previous w v =
-      cases (λ (x : Accumulated). Sound S R x.accumulator) (add_packet g send remote).need_new_group
-      (λ e. record { origin = o; previous = w; current = new-bounded })
-      (λ e. record { origin = o; previous = v; current = added-bounded (belongs_to_group g send remote) w })
+  rounded-sound (Some g) previous w v = sound-added (add_packet g send remote) (added-bounded (belongs_to_group g send remote) w)
+    where
+      sound-added : (a : Option ArrivalGroup) → BoundedIfAny S R a → Sound S R (accumulate_added a g previous origin send remote).accumulator
+      sound-added None b = record { origin = o; previous = w; current = new-bounded }
+      sound-added (Some group) b = record { origin = o; previous = v; current = b }
 
 pub new-sound : (S R : ℕ) → Sound S R new_accumulator
 new-sound S R = record { origin = omega arith; previous = tt; current = tt }

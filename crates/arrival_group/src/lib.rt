@@ -29,13 +29,6 @@ pub enum Belongs {
     Skipped,
 }
 
-// A group after a packet, and whether the packet needs a new one.
-#[derive(Clone, Copy)]
-pub struct Added {
-    pub group: ArrivalGroup,
-    pub need_new_group: bool,
-}
-
 // The delay between two groups.
 #[derive(Clone, Copy)]
 pub struct InterGroupDelayDelta {
@@ -70,10 +63,7 @@ fn rounded(origin: u64, elapsed: u64) -> u64
     ensures { result ≡ Group.rounded origin elapsed }
 {
     let ms = (elapsed / 1000 + 500) / 1000;
-    if ms > 18_446_744_073_709 {
-        return 18446744073709551615;
-    }
-    origin.saturating_add(ms * 1_000_000)
+    origin.saturating_add(ms.saturating_mul(1_000_000))
 }
 
 // Whether a packet arrives in a burst with its group.
@@ -128,30 +118,20 @@ impl ArrivalGroup {
         ensures { result ≡ Group.with_packet self local_send_time remote_recv_time }
     {
         Self {
-            first_local_send_time: self.first_local_send_time,
-            first_remote_recv_time: self.first_remote_recv_time,
             last_local_send_time: self.last_local_send_time.max(local_send_time),
             last_remote_recv_time: self.last_remote_recv_time.max(remote_recv_time),
+            ..self
         }
     }
 
-    pub fn add_packet(self, local_send_time: u64, remote_recv_time: u64) -> Added
+    // The group after a packet, or none where the packet needs a new one.
+    pub fn add_packet(self, local_send_time: u64, remote_recv_time: u64) -> Option<Self>
         ensures { result ≡ Group.add_packet self local_send_time remote_recv_time }
     {
-        let belongs = self.belongs_to_group(local_send_time, remote_recv_time);
-        match belongs {
-            Belongs::NewGroup => Added {
-                group: self,
-                need_new_group: true,
-            },
-            Belongs::Skipped => Added {
-                group: self,
-                need_new_group: false,
-            },
-            Belongs::Yes => Added {
-                group: self.with_packet(local_send_time, remote_recv_time),
-                need_new_group: false,
-            },
+        match self.belongs_to_group(local_send_time, remote_recv_time) {
+            Belongs::NewGroup => None,
+            Belongs::Skipped => Some(self),
+            Belongs::Yes => Some(self.with_packet(local_send_time, remote_recv_time)),
         }
     }
 
@@ -173,14 +153,12 @@ impl ArrivalGroup {
 fn delta(previous: Option<ArrivalGroup>, current: ArrivalGroup) -> Option<InterGroupDelayDelta>
     ensures { result ≡ Group.delta previous current }
 {
-    match previous {
-        None => None,
-        Some(previous) => Some(InterGroupDelayDelta {
-            send_delta: previous.departure_delta(current),
-            arrival_delta: previous.arrival_delta(current),
-            last_remote_recv_time: current.last_remote_recv_time,
-        }),
-    }
+    let previous = previous?;
+    Some(InterGroupDelayDelta {
+        send_delta: previous.departure_delta(current),
+        arrival_delta: previous.arrival_delta(current),
+        last_remote_recv_time: current.last_remote_recv_time,
+    })
 }
 
 impl Accumulated {
@@ -218,29 +196,25 @@ impl ArrivalGroupAccumulator {
         ensures { result ≡ Group.accumulate_rounded self.current_group self.previous_group origin send remote }
     {
         let previous = self.previous_group;
-        let current_group = self.current_group;
-        let Some(current) = current_group else {
+        let Some(current) = self.current_group else {
             return Accumulated::new(origin, previous, ArrivalGroup::new(send, remote), None);
         };
-        let added = current.add_packet(send, remote);
-        if added.need_new_group {
-            return Accumulated::new(
+        match current.add_packet(send, remote) {
+            Some(group) => Accumulated::new(origin, previous, group, None),
+            None => Accumulated::new(
                 origin,
                 Some(current),
                 ArrivalGroup::new(send, remote),
                 delta(previous, current),
-            );
+            ),
         }
-        let group = added.group;
-        Accumulated::new(origin, previous, group, None)
     }
 
     // A packet, in the order of receipt. One sent before the first packet joins no group.
     pub fn accumulate_packet(self, local_send_time: u64, remote_recv_time: u64) -> Accumulated
         ensures { result ≡ Group.accumulate_packet self local_send_time remote_recv_time }
     {
-        let send_time_origin = self.send_time_origin;
-        let origin = send_time_origin.unwrap_or(local_send_time);
+        let origin = self.send_time_origin.unwrap_or(local_send_time);
         if local_send_time < origin {
             return Accumulated {
                 accumulator: self,

@@ -7,6 +7,8 @@ use arrival_group::{ArrivalGroup, InterGroupDelayDelta};
 use bandwidth::{BandwidthUsage, Bitrate, DataSize};
 use control::DelayController;
 use link_state::Link;
+use questions::Report;
+use receive_order::Keys;
 use std::io;
 use time::{TimeDelta, Timestamp};
 use trendline::{Delays, TrendlineEstimator};
@@ -428,41 +430,38 @@ fn report(
     instants: &[u64],
     moment: u64,
 ) -> io::Result<()> {
-    let called = link::report(
-        out_of_range(),
+    let report = Report {
         sequences,
         sizes,
-        instants,
-        instants,
-        instants,
-        None,
+        sends: instants,
+        remotes: instants,
+        receives: instants,
+        probe: None,
         moment,
-    );
-    let answer = called.answer;
-    number(rt, answer.number())
+    };
+    let called = link::report(out_of_range(), report);
+    number(rt, questions::number(called.answer))
 }
 
 fn timeout(rt: &impl Print, moment: u64) -> io::Result<()> {
     let called = link::timeout(out_of_range(), moment);
-    let answer = called.answer;
-    number(rt, answer.number())
+    number(rt, questions::number(called.answer))
 }
 
 // Whether a report that question 9 turns down leaves the estimator as it was.
 fn too_many_bytes(rt: &impl Print) -> io::Result<()> {
-    let judged = link::judge_report(
-        AckedBitrateEstimator::new(500_000_000, 150_000_000),
-        &[1, 2],
-        &[1, 2_147_483_647],
-        &[5, 6],
-        &[5, 6],
-        &[5, 6],
-        None,
-        0,
-    );
-    let acked = judged.acked;
-    let sum = acked.sum;
-    yes_or_no(rt, sum.0 == 0)
+    let acked = AckedBitrateEstimator::new(500_000_000, 150_000_000);
+    let report = Report {
+        sequences: &[1, 2],
+        sizes: &[1, 2_147_483_647],
+        sends: &[5, 6],
+        remotes: &[5, 6],
+        receives: &[5, 6],
+        probe: None,
+        moment: 0,
+    };
+    let after = link::judge_report(acked, report).unwrap_or(acked);
+    yes_or_no(rt, after.sum.0 == 0)
 }
 
 // Of one packet.
@@ -491,7 +490,7 @@ fn first(rt: &impl Print) -> io::Result<()> {
 // Whether a packet so many ns after the first, sent and received, needs a new group.
 fn group(rt: &impl Print, spacing: u64) -> io::Result<()> {
     let first = ArrivalGroup::new(0, 0);
-    yes_or_no(rt, first.add_packet(spacing, spacing).need_new_group)
+    yes_or_no(rt, first.add_packet(spacing, spacing).is_none())
 }
 
 // Whether a modified trend takes a threshold to another, 100 ms after its last update.
@@ -543,12 +542,17 @@ fn instants(rt: &impl Print, a: u64, b: u64) -> io::Result<()> {
 }
 
 fn sum(rt: &impl Print, a: i64, b: i64, expected: i64) -> io::Result<()> {
-    yes_or_no(rt, DataSize(a).add(DataSize(b)).0 == expected)
+    yes_or_no(rt, (DataSize(a) + DataSize(b)).0 == expected)
 }
 
 // The order of two packets, and entries of which the third is past the end: 0 after the last.
 fn order(rt: &impl Print) -> io::Result<()> {
-    let order = receive_order::order_by_receive_time(&[7, 5], &[0, 0], &[0, 0]);
+    let keys = Keys {
+        remotes: &[7, 5],
+        sends: &[0, 0],
+        sequences: &[0, 0],
+    };
+    let order = keys.order_by_receive_time();
     let entries = receive_order::gather(&[10, 20], &[1, 0, 9], 3);
     yes_or_no(rt, (order[0] == 1) & (order[1] == 0) & (order[2] == 0))?;
     yes_or_no(

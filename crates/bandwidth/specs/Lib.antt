@@ -1,1 +1,2 @@
 pub mod Bandwidth
+pub mod Order

@@ -4,12 +4,14 @@
 ghost use Rattle.std.specs.Prelude.{◌≡◌};
 ghost use Rattle.bandwidth.specs.Bandwidth as B;
 
+use std::ops::{Add, Div, Mul};
+
 // A data rate in bits per second.
-#[derive(Clone, Copy)]
+#[derive(Clone, Copy, PartialEq, PartialOrd)]
 pub struct Bitrate(pub f64);
 
 // A data size in bytes.
-#[derive(Clone, Copy)]
+#[derive(Clone, Copy, PartialEq, Eq, PartialOrd, Ord)]
 pub struct DataSize(pub i64);
 
 // How the path is used, as far as the delay tells (src/bwe/mod.rs).
@@ -56,22 +58,15 @@ impl Bitrate {
         float::within(min.0, max.0, self.0)
     }
 
-    pub fn mul(self, factor: f64) -> Self
-        ensures { result ≡ B.mul self factor }
-    {
+}
+
+impl Mul<f64> for Bitrate {
+    type Output = Bitrate;
+
+    ghost mul_gives = { λ rate factor product. product ≡ B.mul rate factor };
+
+    fn mul(self, factor: f64) -> Bitrate {
         Bitrate(self.0 * factor)
-    }
-
-    pub fn eq(self, other: Bitrate) -> bool
-        ensures { result ≡ B.eq self other }
-    {
-        self.0 == other.0
-    }
-
-    pub fn lt(self, other: Bitrate) -> bool
-        ensures { result ≡ B.lt self other }
-    {
-        self.0 < other.0
     }
 }
 
@@ -93,19 +88,6 @@ impl DataSize {
         std::num::nearest_i64_to_f64(self.0)
     }
 
-    pub fn lt(self, other: DataSize) -> bool
-        ensures { result ≡ B.less self other }
-    {
-        self.0 < other.0
-    }
-
-    // Past an end of i64, where the Rust overflows, the sum is that end.
-    pub fn add(self, other: DataSize) -> Self
-        ensures { result ≡ B.add_size self other }
-    {
-        DataSize(self.0.saturating_add(other.0))
-    }
-
     // The rate that moves the size in so many seconds, and 0 where those are a zero.
     pub fn per_secs(self, secs: f64) -> Bitrate
         ensures { result ≡ B.per_secs self secs }
@@ -116,11 +98,26 @@ impl DataSize {
         }
         Bitrate((bytes * 8.0) / secs)
     }
+}
 
-    // The rate that moves the size in a duration of so many ns.
-    pub fn div(self, duration: u64) -> Bitrate
-        ensures { result ≡ B.per_duration self duration }
-    {
-        self.per_secs(seconds::as_secs_f64(duration))
+// Past an end of i64, where the Rust overflows, the sum is that end.
+impl Add for DataSize {
+    type Output = DataSize;
+
+    ghost add_gives = { λ a b sum. sum ≡ B.add_size a b };
+
+    fn add(self, rhs: DataSize) -> DataSize {
+        DataSize(self.0.saturating_add(rhs.0))
+    }
+}
+
+// The rate that moves the size in a duration of so many ns.
+impl Div<u64> for DataSize {
+    type Output = Bitrate;
+
+    ghost div_gives = { λ size duration rate. rate ≡ B.per_duration size duration };
+
+    fn div(self, rhs: u64) -> Bitrate {
+        self.per_secs(seconds::as_secs_f64(rhs))
     }
 }

@@ -3,7 +3,7 @@
 #![tactic(auto)]
 
 ghost use Rattle.std.specs.Prelude.{◌&&◌, ◌≡◌, pos, neg_ℤ};
-ghost use Rattle.questions.specs.Questions.{number, report-of};
+ghost use Rattle.questions.specs.Questions.{number, report as reported, report-of};
 ghost use Rattle.link_state.specs.State.{in_range};
 ghost use Rattle.link_words.specs.LinkWords.{formed, hypothesis_tag, to_words};
 ghost use Rattle.link.specs.Link as Calls;
@@ -12,15 +12,15 @@ ghost use Rattle.lent_calls.specs.LentCalls as Lent;
 
 use bandwidth::{BandwidthUsage, Bitrate};
 use control::DelayController;
-use link::{Answer, Called, Opened, Opening};
+use link::{Called, Opening};
 use link_state::Link;
-use questions::{OptionRefusal, Refusal};
+use questions::{Refusal, Report};
 
 // ---- what C gets
 fn code(refusal: Refusal) -> i64
     ensures { result ≡ neg_ℤ (pos (number refusal)) }
 {
-    -(refusal.number() as i64)
+    -(u64::from(refusal) as i64)
 }
 
 fn hypothesis_tag(hypothesis: BandwidthUsage) -> u32
@@ -59,18 +59,12 @@ fn store(
     ensures hypothesis_after { hypothesis.new ≡ Lent.hypothesis_after (Calls.outcome called).reply hypothesis.old }
     ensures next_timeout_after { next_timeout.new ≡ Lent.next_timeout_after (Calls.outcome called).reply next_timeout.old }
 {
-    let answer = called.answer;
-    match answer {
-        Answer::Refused(refusal) => code(refusal),
-        Answer::Accepted(estimate) => {
-            let rate = estimate.bitrate;
-            let told = estimate.hypothesis;
-            let after = called.link;
-            let acked = after.acked;
-            let control = after.control;
-            link_words::store(link, acked, control);
-            *bitrate = rate.0;
-            *hypothesis = hypothesis_tag(told);
+    match called.answer {
+        Err(refusal) => code(refusal),
+        Ok(estimate) => {
+            link_words::store(link, called.link.acked, called.link.control);
+            *bitrate = estimate.bitrate.0;
+            *hypothesis = hypothesis_tag(estimate.hypothesis);
             *next_timeout = estimate.next_timeout;
             0
         }
@@ -88,16 +82,13 @@ pub fn hornetpewter_open(
     ensures value { result ≡ Lent.open_code (Calls.opening (record { 0 = start_bitrate }) initial_window window) }
     ensures link_after { link.new ≡ Lent.open_words (Calls.opening (record { 0 = start_bitrate }) initial_window window) link.old }
 {
-    let judged = Opening::judge(Bitrate(start_bitrate), initial_window, window);
-    match judged {
-        Opened::Accepted(opening) => {
+    match Opening::judge(Bitrate(start_bitrate), initial_window, window) {
+        Ok(opening) => {
             let opened = opening.link();
-            let acked = opened.acked;
-            let control = opened.control;
-            link_words::store(link, acked, control);
+            link_words::store(link, opened.acked, opened.control);
             0
         }
-        Opened::Refused(refusal) => code(refusal),
+        Err(refusal) => code(refusal),
     }
 }
 
@@ -121,40 +112,29 @@ fn probe_result(has_probe: u32, probe: f64) -> Option<Bitrate>
 fn report_in_order(
     link: &mut [u64; 100],
     lent: Link,
-    sequences: &[u64],
-    sizes: &[u64],
-    sends: &[u64],
-    remotes: &[u64],
-    receives: &[u64],
-    probe: Option<Bitrate>,
-    moment: u64,
+    report: Report,
     bitrate: &mut f64,
     hypothesis: &mut u32,
     next_timeout: &mut u64,
 ) -> i64
-    ensures value { result ≡ Lent.code (Calls.report_in_order lent (report-of sequences.now sizes.now sends.now remotes.now receives.now probe moment)).reply }
-    ensures link_after { link.new ≡ Lent.words_after (Calls.report_in_order lent (report-of sequences.now sizes.now sends.now remotes.now receives.now probe moment)).reply (to_words (Calls.report_in_order lent (report-of sequences.now sizes.now sends.now remotes.now receives.now probe moment)).link) link.old }
-    ensures bitrate_after { bitrate.new ≡ Lent.bitrate_after (Calls.report_in_order lent (report-of sequences.now sizes.now sends.now remotes.now receives.now probe moment)).reply bitrate.old }
-    ensures hypothesis_after { hypothesis.new ≡ Lent.hypothesis_after (Calls.report_in_order lent (report-of sequences.now sizes.now sends.now remotes.now receives.now probe moment)).reply hypothesis.old }
-    ensures next_timeout_after { next_timeout.new ≡ Lent.next_timeout_after (Calls.report_in_order lent (report-of sequences.now sizes.now sends.now remotes.now receives.now probe moment)).reply next_timeout.old }
+    ensures value { result ≡ Lent.code (Calls.report_in_order lent (reported report.entry)).reply }
+    ensures link_after { link.new ≡ Lent.words_after (Calls.report_in_order lent (reported report.entry)).reply
+        (to_words (Calls.report_in_order lent (reported report.entry)).link) link.old }
+    ensures bitrate_after { bitrate.new ≡ Lent.bitrate_after (Calls.report_in_order lent (reported report.entry)).reply bitrate.old }
+    ensures hypothesis_after { hypothesis.new ≡ Lent.hypothesis_after (Calls.report_in_order lent (reported report.entry)).reply hypothesis.old }
+    ensures next_timeout_after { next_timeout.new ≡ Lent.next_timeout_after (Calls.report_in_order lent (reported report.entry)).reply next_timeout.old }
 {
-    let acked = lent.acked;
-    let judged = link::judge_report(
-        acked, sequences, sizes, sends, remotes, receives, probe, moment,
-    );
-    let refusal = judged.refusal;
-    if let OptionRefusal::Some(question) = refusal {
-        return code(question);
-    }
-    let acked = judged.acked;
-    let control = lent.control;
-    let control = control.update(
-        sends,
-        remotes,
-        receives,
+    let acked = match link::judge_report(lent.acked, report) {
+        Ok(acked) => acked,
+        Err(refusal) => return code(refusal),
+    };
+    let control = lent.control.update(
+        report.sends,
+        report.remotes,
+        report.receives,
         acked.current_estimate(),
-        probe,
-        moment,
+        report.probe,
+        report.moment,
     );
     link_words::store(link, acked, control);
     tell(bitrate, hypothesis, next_timeout, control);
@@ -186,26 +166,19 @@ pub fn hornetpewter_report(
     if !in_range(link, lent) {
         return code(Refusal::OutOfRange);
     }
-    let result = probe_result(has_probe, probe);
-    if receive_order::is_sorted(remotes, sends, sequences) {
-        return report_in_order(
-            link,
-            lent,
-            sequences,
-            sizes,
-            sends,
-            remotes,
-            receives,
-            result,
-            moment,
-            bitrate,
-            hypothesis,
-            next_timeout,
-        );
+    let report = Report {
+        sequences,
+        sizes,
+        sends,
+        remotes,
+        receives,
+        probe: probe_result(has_probe, probe),
+        moment,
+    };
+    if report.keys().is_sorted() {
+        return report_in_order(link, lent, report, bitrate, hypothesis, next_timeout);
     }
-    let called = link::report(
-        lent, sequences, sizes, sends, remotes, receives, result, moment,
-    );
+    let called = link::report(lent, report);
     store(link, bitrate, hypothesis, next_timeout, called)
 }
 
@@ -226,13 +199,12 @@ pub fn hornetpewter_timeout(
     if !in_range(link, lent) {
         return code(Refusal::OutOfRange);
     }
-    let judged = questions::timeout(moment);
-    if let OptionRefusal::Some(refusal) = judged {
+    if let Err(refusal) = questions::timeout(moment) {
         return code(refusal);
     }
-    let acked = lent.acked;
-    let control = lent.control;
-    let control = control.handle_timeout(acked.current_estimate(), moment);
+    let control = lent
+        .control
+        .handle_timeout(lent.acked.current_estimate(), moment);
     link_words::store_timeout(link, control);
     tell(bitrate, hypothesis, next_timeout, control);
     0
@@ -256,10 +228,7 @@ pub fn hornetpewter_read(
     if !in_range(link, lent) {
         return code(Refusal::OutOfRange);
     }
-    let control = lent.control;
-    let trendline = control.trendline_estimator;
-    let delays = trendline.delays;
-    tell(bitrate, hypothesis, next_timeout, control);
-    *threshold = delays.delay_threshold;
+    tell(bitrate, hypothesis, next_timeout, lent.control);
+    *threshold = lent.control.trendline_estimator.delays.delay_threshold;
     0
 }

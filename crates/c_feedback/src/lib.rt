@@ -4,51 +4,41 @@
 //   0 next_chunk   1 chunk   2 symbols_left   3 next_delta   4 packets_left   5 next_sequence   6 ticks
 #![tactic(auto)]
 
-ghost use Rattle.std.specs.Prelude.{◌≡◌, ◌%◌, ◌^◌, pos, length};
+ghost use Rattle.std.specs.Prelude.{◌≡◌, pos, length};
 ghost use Rattle.twcc.specs.Feedback.{judge};
 ghost use Rattle.feedback_reader.specs.Reader.{start};
 ghost use Rattle.feedback_lists.specs.Lists as Lists;
 ghost use Rattle.c_feedback.specs.CFeedback as CFeedback;
 
-use feedback_reader::Cursor;
-use twcc::Judged;
-
-fn low_u16(word: u64) -> u16
-    ensures { result ≡ word % 2 ^ 16 }
-{
-    (word % 0x1_0000) as u16
-}
-
-fn low_u32(word: u64) -> u32
-    ensures { result ≡ word % 2 ^ 32 }
-{
-    (word % 0x1_0000_0000) as u32
-}
+use feedback_reader::{Cursor, Place};
 
 fn load(reader: &[u64; 7]) -> Cursor
     ensures { result ≡ CFeedback.cursor_of reader.now }
 {
     Cursor {
-        chunk: low_u16(reader[1]),
-        symbols_left: low_u16(reader[2]),
+        place: Place {
+            next_chunk: reader[0] as usize,
+            chunk: (reader[1] % 0x1_0000) as u16,
+            symbols_left: (reader[2] % 0x1_0000) as u16,
+        },
         next_delta: reader[3] as usize,
-        packets_left: low_u16(reader[4]),
-        next_sequence: low_u16(reader[5]),
-        ticks: low_u32(reader[6]),
+        packets_left: (reader[4] % 0x1_0000) as u16,
+        next_sequence: (reader[5] % 0x1_0000) as u16,
+        ticks: (reader[6] % 0x1_0000_0000) as u32,
     }
 }
 
-fn store(reader: &mut [u64; 7], next_chunk: usize, cursor: Cursor)
-    ensures { reader.new ≡ CFeedback.to_words next_chunk cursor }
+fn store(reader: &mut [u64; 7], cursor: Cursor)
+    ensures { reader.new ≡ CFeedback.to_words cursor }
 {
     *reader = [
-        next_chunk as u64,
-        cursor.chunk as u64,
-        cursor.symbols_left as u64,
+        cursor.place.next_chunk as u64,
+        u64::from(cursor.place.chunk),
+        u64::from(cursor.place.symbols_left),
         cursor.next_delta as u64,
-        cursor.packets_left as u64,
-        cursor.next_sequence as u64,
-        cursor.ticks as u64,
+        u64::from(cursor.packets_left),
+        u64::from(cursor.next_sequence),
+        u64::from(cursor.ticks),
     ];
 }
 
@@ -68,22 +58,17 @@ pub fn hornetpewter_feedback_start(
     ensures reference_time_after { reference_time.new ≡ CFeedback.reference_time (judge message.now) reference_time.old }
     ensures feedback_count_after { feedback_count.new ≡ CFeedback.feedback_count (judge message.now) feedback_count.old }
 {
-    let started = feedback_reader::start(message);
-    let judged = started.judged;
-    match judged {
-        Judged::Good(header) => {
-            let cursor = started.cursor;
-            let reference = header.reference_time;
-            store(reader, started.next_chunk, cursor);
+    match feedback_reader::start(message) {
+        Ok(started) => {
+            let header = started.header;
+            store(reader, started.cursor);
             *base_seq = header.base_seq;
             *status_count = header.status_count;
-            *reference_time = reference;
+            *reference_time = header.reference_time;
             *feedback_count = header.feedback_count;
             0
         }
-        Judged::CutShort => -14,
-        Judged::Reserved => -15,
-        Judged::NoStatus => -16,
+        Err(refusal) => -(u64::from(refusal) as i64),
     }
 }
 
@@ -102,15 +87,13 @@ pub fn hornetpewter_feedback_next(
     ensures statuses_after { statuses.new ≡ Lists.statuses_over (CFeedback.packets_to statuses.old ticks.old message.now reader.old) statuses.old }
     ensures ticks_after { ticks.new ≡ Lists.ticks_over (CFeedback.packets_to statuses.old ticks.old message.now reader.old) ticks.old }
 {
-    let first = reader[0] as usize;
-    let cursor = load(reader);
-    let handed = feedback_lists::read(message, first, cursor, statuses, ticks);
-    let packets = handed.packets;
+    let mut cursor = load(reader);
+    let first = cursor.next_sequence;
+    let packets = feedback_lists::read(message, &mut cursor, statuses, ticks);
     if packets == 0 {
         return 0;
     }
-    let after = handed.cursor;
-    store(reader, handed.next_chunk, after);
-    *sequence = cursor.next_sequence;
+    store(reader, cursor);
+    *sequence = first;
     packets as i64
 }

@@ -1,13 +1,14 @@
 -- Answers as C has them.
-use Rattle.std.specs.Prelude.{ℕ, cond, ℤ, pos, neg_ℤ}
-use Rattle.pass_records.specs.PassRecords.{least_output, length_in, most_records, whole_records}
-use Rattle.pass_file.specs.PassFile.{Answer, listed, turned_down}
+use Rattle.std.specs.Prelude.{ℕ, Result, Ok, Err, ℤ, pos, neg_ℤ}
+use Rattle.pass_records.specs.PassRecords as Records
+use Rattle.pass_records.specs.PassRecords.{most_records, question}
+use Rattle.pass_records.specs.declared.FileRefusal.{FileRefusal}
 
--- a listing's length, or the opposite of a number
-abbrev pub code : Answer → ℤ
-code (listed n) = pos n
-code (turned_down n) = neg_ℤ (pos n)
+-- a number of bytes, or the opposite of a question's number
+abbrev pub code : Result ℕ FileRefusal → ℤ
+code (Ok bytes) = pos bytes
+code (Err refusal) = neg_ℤ (pos (question refusal))
 
 -- the output that question 13 asks for, of a length that question 10 takes
-unfoldable pub room : ℕ → ℤ
-room bytes = cond (length_in most_records bytes) (pos (least_output (whole_records bytes))) (neg_ℤ (pos 10))
+abbrev pub room : ℕ → ℤ
+room bytes = code (Records.room most_records bytes)

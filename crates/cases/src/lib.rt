@@ -1,11 +1,10 @@
 // What the test programs share: a case of the oracle (tools/oracle), whether answers agree with it, how many cases differ, and lines with such counts.
 #![tactic(auto)]
 
-ghost use Rattle.std.specs.Prelude.{◌≡◌, length, replicate};
+ghost use Rattle.std.specs.Prelude.{◌≡◌, ◌↔◌, IsTrue, length, replicate};
 ghost use Rattle.cases.specs.Cases as Cases;
 
-use std::io;
-use std::num::wrapping_add_u64;
+use std::{array, io};
 
 // An operation, its inputs and the Rust's answers.
 #[derive(Clone, Copy)]
@@ -31,27 +30,14 @@ impl Case {
             c: le_bytes::read_u64(bytes, 24),
             d: le_bytes::read_u64(bytes, 32),
             e: le_bytes::read_u64(bytes, 40),
-            answers: [
-                le_bytes::read_u64(bytes, 48),
-                le_bytes::read_u64(bytes, 56),
-                le_bytes::read_u64(bytes, 64),
-                le_bytes::read_u64(bytes, 72),
-                le_bytes::read_u64(bytes, 80),
-                le_bytes::read_u64(bytes, 88),
-            ],
+            answers: array::from_fn(|k| le_bytes::read_u64(bytes, 48 + 8 * k)),
         }
     }
 
     pub fn agrees(self, answers: [u64; 6]) -> bool
-        ensures { result ≡ Cases.agrees self answers }
+        ensures { IsTrue result ↔ (answers ≡ self.answers) }
     {
-        let expected = self.answers;
-        (answers[0] == expected[0])
-            & (answers[1] == expected[1])
-            & (answers[2] == expected[2])
-            & (answers[3] == expected[3])
-            & (answers[4] == expected[4])
-            & (answers[5] == expected[5])
+        self.answers == answers
     }
 }
 
@@ -81,10 +67,12 @@ impl Counts {
         ensures { result ≡ Cases.counted self packets agrees }
     {
         Self {
-            cases: wrapping_add_u64(self.cases, 1),
-            packets: wrapping_add_u64(self.packets, packets),
-            agreed: wrapping_add_u64(self.agreed, (agrees & (self.wrong == 0)) as u64),
-            wrong: wrapping_add_u64(self.wrong, !agrees as u64),
+            cases: self.cases.wrapping_add(1),
+            packets: self.packets.wrapping_add(packets),
+            agreed: self
+                .agreed
+                .wrapping_add((agrees & (self.wrong == 0)) as u64),
+            wrong: self.wrong.wrapping_add(!agrees as u64),
         }
     }
 
@@ -96,7 +84,7 @@ impl Counts {
     // Prints which case is the first that differs, if one does.
     pub fn print_first(self, rt: &impl Print) -> io::Result<()> {
         if self.wrong != 0 {
-            print_line(rt, b"first", wrapping_add_u64(self.agreed, 1), 0)?;
+            print_line(rt, b"first", self.agreed.wrapping_add(1), 0)?;
         }
         Ok(())
     }

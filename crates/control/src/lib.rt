@@ -48,7 +48,7 @@ fn max_rtt(local_send_times: &[u64], local_recv_times: &[u64]) -> Option<u64>
 {
     let mut max_rtt = None;
     for i in 0..local_send_times.len().min(local_recv_times.len()) {
-        let rtt = time::saturating_duration_since(local_recv_times[i], local_send_times[i]);
+        let rtt = local_recv_times[i].saturating_sub(local_send_times[i]);
         max_rtt = time::longest(max_rtt, rtt);
     }
     max_rtt
@@ -149,7 +149,7 @@ impl DelayController {
         let Some(last) = self.last_twcc_report else {
             return false;
         };
-        time::saturating_duration_since(now, last) <= 2 * self.wait()
+        now.saturating_sub(last) <= 2 * self.wait()
     }
 
     // A report: its packets in the order of receipt, the acknowledged rate, a probe's result or none, and the moment.

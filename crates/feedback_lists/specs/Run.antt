@@ -1,5 +1,5 @@
 -- Packets of a run of small deltas handed out together, and that steps one by one give the same.
-use Rattle.std.specs.Prelude.{◌≡◌, ℕ, zero, suc, ◌+◌, ◌-◌, ◌%◌, ◌^◌, ◌<◌, ◌≤◌, List, [], ◌∷◌, length, drop, replicate, ℤ, slice_index, slice_set, refl}
+use Rattle.std.specs.Prelude.{◌≡◌, ℕ, zero, suc, ◌+◌, ◌-◌, ◌%◌, ◌^◌, ◌<◌, ◌≤◌, List, [], ◌∷◌, length, drop, replicate, ℤ, slice_index, slice_set, refl, Some}
 use Rattle.std.proofs.Math.Path.{sym}
 use Rattle.std.proofs.Common.{◌∙◌, add-zero, mod-eq_of_lt}
 use native.Mathlib.Omega.{arith}
@@ -10,11 +10,9 @@ use borrow.Author.Tests.{le-ltb, ne_eqb}
 use Rattle.status_chunk.specs.Chunk.{small_delta, symbol_count, symbol_left}
 use Rattle.status_chunk.specs.Laws.{run-symbol}
 use Rattle.twcc.specs.Feedback.{signed, packet}
-use Rattle.twcc.specs.declared.Packet.TheVariants.{Received}
-use Rattle.feedback_reader.specs.Reader.{delta_bits, taken, taken_if, step_in, step}
+use Rattle.feedback_reader.specs.Reader.{gives, delta_bits, taken, taken_if, step_in, step}
 use Rattle.feedback_reader.specs.Filling.{filled-now}
 use Rattle.feedback_reader.specs.declared.Cursor.{Cursor}
-use Rattle.feedback_reader.specs.declared.OptionPacket.TheVariants.{Some}
 
 -- ---- n packets
 -- the sum of deltas after one packet
@@ -34,8 +32,7 @@ run_times (suc n) message delta ticks = signed 0x8000_0000 (small_after message 
 abbrev pub after_run : Cursor → ℕ → ℕ → Cursor
 after_run cursor n ticks =
     record {
-      chunk = cursor.chunk;
-      symbols_left = cursor.symbols_left - n;
+      place = record { next_chunk = cursor.place.next_chunk; chunk = cursor.place.chunk; symbols_left = cursor.place.symbols_left - n };
       next_delta = cursor.next_delta + n;
       packets_left = cursor.packets_left - n;
       next_sequence = (cursor.next_sequence + n) % 2 ^ 16;
@@ -45,29 +42,29 @@ after_run cursor n ticks =
 -- n packets of a run of small deltas are at hand, with their deltas in a message of a length, and with places for them
 pub record AtHand (length places : ℕ) (cursor : Cursor) (n : ℕ) : Type 0 where
   pub room : n ≤ places
-  pub symbols : n ≤ cursor.symbols_left
+  pub symbols : n ≤ cursor.place.symbols_left
   pub packets : n ≤ cursor.packets_left
-  pub from-small : 0 < n → 0x2000 ≤ cursor.chunk
-  pub below-large : 0 < n → cursor.chunk < 0x4000
+  pub from-small : 0 < n → 0x2000 ≤ cursor.place.chunk
+  pub below-large : 0 < n → cursor.place.chunk < 0x4000
   pub deltas : 0 < n → cursor.next_delta + n ≤ length
 
 -- ---- one of them
-module _ (message : List ℕ) (at : ℕ) (cursor : Cursor) (places : ℕ) (n : ℕ) (run : AtHand (length message) places cursor (suc n)) where
+module _ (message : List ℕ) (cursor : Cursor) (places : ℕ) (n : ℕ) (run : AtHand (length message) places cursor (suc n)) where
   abbrev pub time : ℕ
   time = small_after message cursor.next_delta cursor.ticks
 
-  symbol-is : symbol_left cursor.chunk cursor.symbols_left ≡ small_delta
+  symbol-is : symbol_left cursor.place.chunk cursor.place.symbols_left ≡ small_delta
   symbol-is =
-      run-symbol cursor.chunk (symbol_count cursor.chunk - cursor.symbols_left) (omega (arith, run.below-large (omega arith)))
+      run-symbol cursor.place.chunk (symbol_count cursor.place.chunk - cursor.place.symbols_left) (omega (arith, run.below-large (omega arith)))
       ∙ omega (arith, run.from-small (omega arith), run.below-large (omega arith))
 
-  pub run_step : step message at cursor ≡ record { packet = Some (Received cursor.next_sequence (signed 0x8000_0000 time)); next_chunk = at; cursor = after_run cursor 1 time }
+  pub run_step : step message cursor ≡ gives (Some (record { sequence = cursor.next_sequence; ticks = Some (signed 0x8000_0000 time) })) (after_run cursor 1 time)
   unfolding step step_in taken_if taken delta_bits packet
   run_step =
       rw (
         ne_eqb cursor.packets_left 0 (λ e. omega (arith, run.packets)),
-        sym (filled-now (drop at message) at cursor.chunk cursor.symbols_left (λ e. omega (arith, run.symbols))),
-        ne_eqb cursor.symbols_left 0 (λ e. omega (arith, run.symbols)),
+        sym (filled-now (drop cursor.place.next_chunk message) cursor.place (λ e. omega (arith, run.symbols))),
+        ne_eqb cursor.place.symbols_left 0 (λ e. omega (arith, run.symbols)),
         symbol-is,
         le-ltb (length message) (cursor.next_delta + 1) (omega (arith, run.deltas (omega arith))),
       )
@@ -89,7 +86,7 @@ after_none cursor h = simp (sub-zero, add-zero, mod-eq_of_lt h)
 
 pub after_on : (cursor : Cursor) (n time ticks : ℕ) → after_run (after_run cursor 1 time) n ticks ≡ after_run cursor (suc n) ticks
 after_on cursor n time ticks =
-    let a : cursor.symbols_left - 1 - n ≡ cursor.symbols_left - suc n = omega arith in
+    let a : cursor.place.symbols_left - 1 - n ≡ cursor.place.symbols_left - suc n = omega arith in
     let b : cursor.next_delta + 1 + n ≡ cursor.next_delta + suc n = omega arith in
     let c : cursor.packets_left - 1 - n ≡ cursor.packets_left - suc n = omega arith in
     let d : ((cursor.next_sequence + 1) % 2 ^ 16 + n) % 2 ^ 16 ≡ (cursor.next_sequence + suc n) % 2 ^ 16 = omega arith in

@@ -5,21 +5,24 @@ use Rattle.status_chunk.specs.Chunk.{symbol_count}
 use Rattle.twcc.specs.Feedback.{read_u16}
 use Rattle.twcc.specs.Chunks.{drop-two}
 use Rattle.feedback_reader.specs.Reader.{filled}
+use Rattle.feedback_reader.specs.declared.Place.{Place}
 
-pub filled-now : (chunks : List ℕ) (at chunk left : ℕ) → (left ≢ 0) → record { next_chunk = at; chunk = chunk; symbols_left = left } ≡ filled chunks at chunk left
+pub filled-now : (chunks : List ℕ) (place : Place) → (place.symbols_left ≢ 0) → place ≡ filled chunks place
 unfolding filled
-filled-now [] at chunk left h = refl
-filled-now (a ∷ []) at chunk left h = refl
-filled-now (a ∷ b ∷ chunks) at chunk left h = rw (ne_eqb left 0 h)
+filled-now [] place h = refl
+filled-now (a ∷ []) place h = refl
+filled-now (a ∷ b ∷ chunks) place h = rw (ne_eqb place.symbols_left 0 h)
 
-pub filled-end : (chunks : List ℕ) (at chunk left : ℕ) → length chunks < 2 → record { next_chunk = at; chunk = chunk; symbols_left = left } ≡ filled chunks at chunk left
+pub filled-end : (chunks : List ℕ) (place : Place) → length chunks < 2 → place ≡ filled chunks place
 unfolding filled
-filled-end [] at chunk left h = refl
-filled-end (a ∷ []) at chunk left h = refl
-filled-end (a ∷ b ∷ chunks) at chunk left h = absurd (omega arith)
+filled-end [] place h = refl
+filled-end (a ∷ []) place h = refl
+filled-end (a ∷ b ∷ chunks) place h = absurd (omega arith)
 
 pub filled-turn :
-    (bytes : List ℕ) (at chunk left : ℕ) → at + 2 ≤ length bytes → left ≡ 0 →
-    filled (drop at bytes) at chunk left ≡ filled (drop (at + 2) bytes) (at + 2) (read_u16 bytes at) (symbol_count (read_u16 bytes at))
+    (bytes : List ℕ) (place : Place) → place.next_chunk + 2 ≤ length bytes → place.symbols_left ≡ 0 →
+    filled (drop place.next_chunk bytes) place
+    ≡ filled (drop (place.next_chunk + 2) bytes)
+    (record { next_chunk = place.next_chunk + 2; chunk = read_u16 bytes place.next_chunk; symbols_left = symbol_count (read_u16 bytes place.next_chunk) })
 unfolding filled
-filled-turn bytes at chunk left h e = rw (drop-two bytes at h, e)
+filled-turn bytes place h e = rw (drop-two bytes place.next_chunk h, e)

@@ -1,257 +1,160 @@
-// A reader of feedback messages: started by judging, each step hands out the next packet and the reader after it.
-// `start` and `step` work on a plain slice with a place and a cursor; a FeedbackReader holds all three.
+// A reader of feedback messages: started by judging, it hands out the packets one by one.
+// `start` and `step` work on a plain slice and a cursor; a FeedbackReader holds both.
 #![tactic(auto)]
 
 ghost use Rattle.std.specs.Prelude.{◌≡◌, ◌+◌, ◌<◌, ◌≤◌, length, drop};
+ghost use Rattle.std.specs.Int.{w32, cast_unsigned};
+ghost use Rattle.std.specs.Iterator.{at_most};
+ghost use Rattle.status_chunk.specs.Chunk.{number};
 ghost use Rattle.twcc.specs.Feedback as Feedback;
 ghost use Rattle.feedback_reader.specs.Reader as Reader;
 
-use std::num::{wrapping_add_u16, wrapping_add_u32};
-use twcc::{Header, Judged, Packet};
-
-const HEADER_BYTES: usize = 8;
-
-#[derive(Clone, Copy)]
-pub enum OptionPacket {
-    None,
-    Some(Packet),
-}
-
-// What a reader holds beside the message and the place of the next chunk: the chunk that it is in and how many of its symbols are left, the place of the next
-// delta, how many packets are left, the next sequence number, and the sum of the deltas so far modulo 2^32.
-#[derive(Clone, Copy)]
-pub struct Cursor {
-    pub chunk: u16,
-    pub symbols_left: u16,
-    pub next_delta: usize,
-    pub packets_left: u16,
-    pub next_sequence: u16,
-    pub ticks: u32,
-}
-
-#[derive(Clone, Copy)]
-pub struct CursorStart {
-    pub judged: Judged,
-    pub next_chunk: usize,
-    pub cursor: Cursor,
-}
-
-#[derive(Clone, Copy)]
-pub struct CursorStep {
-    pub packet: OptionPacket,
-    pub next_chunk: usize,
-    pub cursor: Cursor,
-}
+use status_chunk::Symbol;
+use twcc::{HEADER_BYTES, Header, Packet, Refusal};
 
 // A chunk, how many of its symbols are left, and the place of the chunk after it.
-#[derive(Clone, Copy)]
+#[derive(Clone, Copy, Debug, PartialEq, Eq)]
 pub struct Place {
     pub next_chunk: usize,
     pub chunk: u16,
     pub symbols_left: u16,
 }
 
-// The cursor before the first packet. The chunk before the first is a run of no symbols.
-fn cursor_at(next_delta: usize, packets: u16, base_seq: u16) -> Cursor
-    ensures { result ≡ Reader.cursor_at next_delta packets base_seq }
-{
-    Cursor {
-        chunk: 0,
-        symbols_left: 0,
-        next_delta: next_delta,
-        packets_left: packets,
-        next_sequence: base_seq,
-        ticks: 0,
-    }
+// What a reader holds beside the message: the chunk that it is in, the place of the next delta, how many packets are left, the next sequence number, and the sum
+// of the deltas so far modulo 2^32.
+#[derive(Clone, Copy, Debug, PartialEq, Eq)]
+pub struct Cursor {
+    pub place: Place,
+    pub next_delta: usize,
+    pub packets_left: u16,
+    pub next_sequence: u16,
+    pub ticks: u32,
 }
 
-fn cursor_of(judged: Judged, deltas: usize) -> Cursor
-    ensures { result ≡ Reader.cursor_of judged deltas }
-{
-    match judged {
-        Judged::Good(header) => cursor_at(deltas, header.status_count, header.base_seq),
-        Judged::CutShort => cursor_at(0, 0, 0),
-        Judged::Reserved => cursor_at(0, 0, 0),
-        Judged::NoStatus => cursor_at(0, 0, 0),
-    }
-}
-
-// Judges a message, and starts before its first packet. A message that fails a question has none to hand out.
-pub fn start(message: &[u8]) -> CursorStart
-    ensures { result ≡ Reader.start message.now }
-{
-    let judgement = twcc::judge_with_deltas(message);
-    let judged = judgement.judged;
-    CursorStart {
-        judged: judged,
-        next_chunk: HEADER_BYTES,
-        cursor: cursor_of(judged, judgement.deltas),
-    }
-}
-
-// The first chunk with a symbol left: the one at hand, or one of those from a place on. Runs of no symbols are passed over.
-fn fill(message: &[u8], first: usize, at_hand: u16, symbols_left: u16) -> Place
-    ensures { result ≡ Reader.filled (drop first message.now) first at_hand symbols_left }
-{
-    let mut next_chunk = first;
-    let mut chunk = at_hand;
-    let mut left = symbols_left;
-    while left == 0 {
-        if twcc::cut_short(message, next_chunk, 2) {
-            return Place {
-                next_chunk: next_chunk,
-                chunk: chunk,
-                symbols_left: left,
-            };
-        }
-        chunk = twcc::read_u16(message, next_chunk);
-        left = status_chunk::symbol_count(chunk);
-        next_chunk += 2;
-    }
-    Place {
-        next_chunk: next_chunk,
-        chunk: chunk,
-        symbols_left: left,
-    }
-}
-
-// How many bytes a symbol's recv delta has.
-fn byte_len(symbol: u16) -> usize
-    ensures { result ≡ symbol }
-{
-    symbol as usize
-}
-
-// A small delta is a byte, not signed.
-pub fn small_delta(byte: u8) -> u32
-    ensures { result ≡ byte }
-{
-    byte as u32
-}
-
-// The recv delta of a symbol at a place, in 32 bits.
-fn recv_delta(message: &[u8], at: usize, symbol: u16) -> u32
-    ensures { result ≡ Reader.delta_bits symbol message.now at }
-{
-    if symbol == 2 {
-        return twcc::sign_extend_u16(twcc::read_u16(message, at));
-    }
-    if symbol == 1 {
-        return small_delta(le_bytes::read_u8(message, at));
-    }
-    0
-}
-
-fn packet(symbol: u16, sequence: u16, ticks: u32) -> Packet
-    ensures { result ≡ Feedback.packet symbol sequence (Feedback.signed 0x8000_0000 ticks) }
-{
-    if symbol == 0 {
-        return Packet::NotReceived(sequence);
-    }
-    Packet::Received(sequence, twcc::as_i32(ticks))
-}
-
-// The packet of the symbol at hand, and the cursor after it.
-fn take(message: &[u8], place: Place, cursor: Cursor, symbol: u16) -> CursorStep
-    requires { (cursor.next_delta + symbol ≤ length message.now) × ((0 < cursor.packets_left) × (0 < place.symbols_left)) }
-    ensures { result ≡ Reader.taken message.now place cursor symbol }
-{
-    let ticks = wrapping_add_u32(cursor.ticks, recv_delta(message, cursor.next_delta, symbol));
-    let next = Cursor {
-        chunk: place.chunk,
-        symbols_left: place.symbols_left - 1,
-        next_delta: cursor.next_delta + byte_len(symbol),
-        packets_left: cursor.packets_left - 1,
-        next_sequence: wrapping_add_u16(cursor.next_sequence, 1),
-        ticks: ticks,
-    };
-    CursorStep {
-        packet: OptionPacket::Some(packet(symbol, cursor.next_sequence, ticks)),
-        next_chunk: place.next_chunk,
-        cursor: next,
-    }
-}
-
-fn none(next_chunk: usize, cursor: Cursor) -> CursorStep
-    ensures { result ≡ Reader.none next_chunk cursor }
-{
-    CursorStep {
-        packet: OptionPacket::None,
-        next_chunk: next_chunk,
-        cursor: cursor,
-    }
-}
-
-// The next packet. None is left after the last; nor is one where a place and a cursor that no judging made run past the message or meet a reserved symbol. Then they stay as they are.
-pub fn step(message: &[u8], next_chunk: usize, cursor: Cursor) -> CursorStep
-    ensures { result ≡ Reader.step message.now next_chunk cursor }
-{
-    if cursor.packets_left == 0 {
-        return none(next_chunk, cursor);
-    }
-    let place = fill(message, next_chunk, cursor.chunk, cursor.symbols_left);
-    if place.symbols_left == 0 {
-        return none(next_chunk, cursor);
-    }
-    let symbol = status_chunk::symbol_left(place.chunk, place.symbols_left);
-    if symbol == status_chunk::RESERVED {
-        return none(next_chunk, cursor);
-    }
-    if twcc::cut_short(message, cursor.next_delta, byte_len(symbol)) {
-        return none(next_chunk, cursor);
-    }
-    take(message, place, cursor, symbol)
-}
-
-// A reader that holds the message, the place of its next chunk and the other numbers.
-#[derive(Clone, Copy)]
-pub struct FeedbackReader<'a> {
-    pub message: &'a [u8],
-    pub next_chunk: usize,
+// What a good message's header says, and the cursor before its first packet.
+#[derive(Clone, Copy, Debug, PartialEq, Eq)]
+pub struct Started {
+    pub header: Header,
     pub cursor: Cursor,
 }
 
-#[derive(Clone, Copy)]
-pub struct ReaderStart<'a> {
-    pub reader: FeedbackReader<'a>,
-    pub judged: Judged,
+// Judges a message, and starts before its first packet. The chunk before the first is a run of no symbols.
+pub fn start(message: &[u8]) -> Result<Started, Refusal>
+    ensures { result ≡ Reader.start message.now }
+{
+    let judgement = twcc::judge_with_deltas(message)?;
+    let header = judgement.header;
+    let place = Place {
+        next_chunk: HEADER_BYTES,
+        chunk: 0,
+        symbols_left: 0,
+    };
+    let cursor = Cursor {
+        place,
+        next_delta: judgement.deltas,
+        packets_left: header.status_count,
+        next_sequence: header.base_seq,
+        ticks: 0,
+    };
+    Ok(Started { header, cursor })
 }
 
+// The first chunk with a symbol left: the one at hand, or one of those after it. Runs of no symbols are passed over.
+fn fill(message: &[u8], at_hand: Place) -> Place
+    ensures { result ≡ Reader.filled (drop at_hand.next_chunk message.now) at_hand }
+{
+    let mut place = at_hand;
+    while place.symbols_left == 0 {
+        if twcc::cut_short(message, place.next_chunk, 2) {
+            return place;
+        }
+        let chunk = twcc::read_u16(message, place.next_chunk);
+        place = Place {
+            next_chunk: place.next_chunk + 2,
+            chunk,
+            symbols_left: status_chunk::symbol_count(chunk),
+        };
+    }
+    place
+}
+
+// The recv delta of a symbol at a place: a byte, not signed, or two bytes and signed.
+fn recv_delta(message: &[u8], at: usize, symbol: Symbol) -> i32
+    ensures { cast_unsigned w32 result ≡ Reader.delta_bits (number symbol) message.now at }
+{
+    match symbol {
+        Symbol::SmallDelta => i32::from(le_bytes::read_u8(message, at)),
+        Symbol::LargeDelta => i32::from(twcc::read_u16(message, at).cast_signed()),
+        Symbol::NotReceived | Symbol::Reserved => 0,
+    }
+}
+
+fn packet(symbol: Symbol, sequence: u16, sum: u32) -> Packet
+    ensures { result ≡ Feedback.packet (number symbol) sequence (Feedback.signed 0x8000_0000 sum) }
+{
+    let ticks = match symbol {
+        Symbol::NotReceived => None,
+        _ => Some(sum.cast_signed()),
+    };
+    Packet { sequence, ticks }
+}
+
+// The packet of the symbol at hand.
+fn take(message: &[u8], cursor: &mut Cursor, place: Place, symbol: Symbol) -> Packet
+    requires { (cursor.old.next_delta + number symbol ≤ length message.now) × ((0 < cursor.old.packets_left) × (0 < place.symbols_left)) }
+    ensures { Reader.gives (Some result) cursor.new ≡ Reader.taken message.now place cursor.old (number symbol) }
+{
+    let delta = recv_delta(message, cursor.next_delta, symbol);
+    let ticks = cursor.ticks.wrapping_add_signed(delta);
+    let taken = packet(symbol, cursor.next_sequence, ticks);
+    *cursor = Cursor {
+        place: Place {
+            symbols_left: place.symbols_left - 1,
+            ..place
+        },
+        next_delta: cursor.next_delta + symbol.byte_len(),
+        packets_left: cursor.packets_left - 1,
+        next_sequence: cursor.next_sequence.wrapping_add(1),
+        ticks,
+    };
+    taken
+}
+
+// The next packet. None is left after the last; nor is one where a cursor that no judging made runs past the message or meets a reserved symbol. Then it stays as it is.
+pub fn step(message: &[u8], cursor: &mut Cursor) -> Option<Packet>
+    ensures { Reader.gives result cursor.new ≡ Reader.step message.now cursor.old }
+{
+    if cursor.packets_left == 0 {
+        return None;
+    }
+    let place = fill(message, cursor.place);
+    if place.symbols_left == 0 {
+        return None;
+    }
+    let symbol = status_chunk::symbol_left(place.chunk, place.symbols_left);
+    if symbol == Symbol::Reserved {
+        return None;
+    }
+    if twcc::cut_short(message, cursor.next_delta, symbol.byte_len()) {
+        return None;
+    }
+    Some(take(message, cursor, place, symbol))
+}
+
+// A reader that holds the message and the cursor.
 #[derive(Clone, Copy)]
-pub struct ReaderStep<'a> {
-    pub reader: FeedbackReader<'a>,
-    pub packet: OptionPacket,
+pub struct FeedbackReader<'a> {
+    pub message: &'a [u8],
+    pub cursor: Cursor,
 }
 
 impl<'a> FeedbackReader<'a> {
-    // Judges a message, and starts a reader of it. Of a message that fails a question it hands out none.
-    pub fn start(message: &'a [u8]) -> ReaderStart<'a>
+    // Judges a message, and starts a reader of it.
+    pub fn start(message: &'a [u8]) -> Result<FeedbackReader<'a>, Refusal>
         ensures { result ≡ Reader.reader_start message.entry }
     {
-        let started = start(message);
-        ReaderStart {
-            reader: FeedbackReader {
-                message: message,
-                next_chunk: started.next_chunk,
-                cursor: started.cursor,
-            },
-            judged: started.judged,
-        }
-    }
-
-    // The next packet, and the reader after it.
-    pub fn next(self) -> ReaderStep<'a>
-        ensures { result ≡ Reader.reader_next self.entry }
-    {
-        let stepped = step(self.message, self.next_chunk, self.cursor);
-        ReaderStep {
-            reader: FeedbackReader {
-                message: self.message,
-                next_chunk: stepped.next_chunk,
-                cursor: stepped.cursor,
-            },
-            packet: stepped.packet,
-        }
+        let cursor = start(message)?.cursor;
+        Ok(FeedbackReader { message, cursor })
     }
 
     // What the message's header says. Of a message shorter than that the missing bytes count as 0.
@@ -259,5 +162,18 @@ impl<'a> FeedbackReader<'a> {
         ensures { result ≡ Feedback.read_header self.entry.message.now }
     {
         twcc::read_header(self.message)
+    }
+}
+
+// The packets, one by one.
+impl<'a> Iterator for FeedbackReader<'a> {
+    type Item = Packet;
+
+    ghost remaining = { λ r. at_most r.cursor.packets_left };
+
+    ghost next_gives = { λ r packet s. (packet ≡ (Reader.reader_next r).packet) × (s ≡ (Reader.reader_next r).reader) };
+
+    fn next(&mut self) -> Option<Packet> {
+        step(self.message, &mut self.cursor)
     }
 }

@@ -1,17 +1,14 @@
 -- What a yes says of a message, and the packets of a good message: as many as its status count, in sequence order modulo 65,536. A message that is turned down has none.
-use Rattle.std.specs.Prelude.{◌≡◌, ℕ, zero, suc, ◌+◌, ◌%◌, ◌^◌, ◌≤◌, ◌<◌, Bool, true, false, cond, List, [], ◌∷◌, ◌⊎◌, eqb, ltb, ℤ, pos, ◌+ℤ◌, length, get_or, drop}
+use Rattle.std.specs.Prelude.{◌≡◌, ℕ, zero, suc, ◌+◌, ◌%◌, ◌^◌, ◌≤◌, ◌<◌, Bool, true, false, cond, List, [], ◌∷◌, ◌⊎◌, eqb, ltb, ℤ, pos, ◌+ℤ◌, length, get_or, drop, None, Result, Ok, Err}
 use Rattle.std.proofs.Math.Path.{refl}
 use Rattle.std.proofs.Common.{ap, ◌∙◌, arith, length-take, ltb-false}
 use Rattle.std.proofs.Math.Logic.{inl, inr}
 use Rattle.std.proofs.lemmas.Bool.{eqb-false}
-use Rattle.bool_laws.specs.Bools.{chosen}
-use Rattle.status_chunk.specs.Chunk.{not_received, any_reserved}
+use Rattle.status_chunk.specs.Chunk.{any_reserved}
 use Rattle.twcc.specs.Feedback.{header_bytes, base_seq, status_count, read_header, chunk_symbols, symbols, deltas_at, deltas_end, judge, recv_delta, packet, packets_from, packets_of, packets}
 use Rattle.twcc.specs.declared.Header.{Header}
-use Rattle.twcc.specs.declared.Judged.{Judged}
-use Rattle.twcc.specs.declared.Judged.TheVariants.{Good, CutShort, Reserved, NoStatus}
-use Rattle.twcc.specs.declared.Packet.TheVariants.{NotReceived}
-use Rattle.feedback_lists.specs.Lists.{sequence_of}
+use Rattle.twcc.specs.declared.Packet.{Packet}
+use Rattle.twcc.specs.declared.Refusal.{Refusal}
 
 -- ---- a yes
 pub record Accepted (message : List ℕ) (h : Header) : Type 0 where
@@ -23,27 +20,21 @@ pub record Accepted (message : List ℕ) (h : Header) : Type 0 where
   pub deltas : deltas_end message ≤ length message
 
 -- a test between a refusal and what follows, that comes to a yes
-passed : (t : Bool) {x y : Judged} {h : Header} → (x ≡ Good h → ⊥) → cond t x y ≡ Good h → (t ≡ false) × (y ≡ Good h)
-passed true not-Good e = absurd (not-Good e)
-passed false not-Good e = (refl, e)
+passed : (t : Bool) {x y : Result Header Refusal} {h : Header} → (x ≡ Ok h → ⊥) → cond t x y ≡ Ok h → (t ≡ false) × (y ≡ Ok h)
+passed true no-yes e = absurd (no-yes e)
+passed false no-yes e = (refl, e)
 
-pub cut-no-yes : {h : Header} → CutShort ≡ Good h → ⊥
-cut-no-yes e = let z : ◌≡◌ {A = ℕ} 0 1 = cc in omega arith
+pub refused-no-yes : {r : Refusal} {h : Header} → Err r ≡ Ok h → ⊥
+refused-no-yes e = let z : ◌≡◌ {A = ℕ} 0 1 = cc in omega arith
 
-pub reserved-no-yes : {h : Header} → Reserved ≡ Good h → ⊥
-reserved-no-yes e = let z : ◌≡◌ {A = ℕ} 0 1 = cc in omega arith
-
-pub none-no-yes : {h : Header} → NoStatus ≡ Good h → ⊥
-none-no-yes e = let z : ◌≡◌ {A = ℕ} 0 1 = cc in omega arith
-
-pub accepted : (message : List ℕ) (h : Header) → judge message ≡ Good h → Accepted message h
+pub accepted : (message : List ℕ) (h : Header) → judge message ≡ Ok h → Accepted message h
 unfolding judge
 accepted message h good =
-    let a = passed (ltb (length message) header_bytes) cut-no-yes good in
-    let b = passed (eqb (status_count message) 0) none-no-yes a.1 in
-    let c = passed (any_reserved (symbols message)) reserved-no-yes b.1 in
-    let d = passed (ltb (length (symbols message)) (status_count message)) cut-no-yes c.1 in
-    let e = passed (ltb (length message) (deltas_end message)) cut-no-yes d.1 in
+    let a = passed (ltb (length message) header_bytes) refused-no-yes good in
+    let b = passed (eqb (status_count message) 0) refused-no-yes a.1 in
+    let c = passed (any_reserved (symbols message)) refused-no-yes b.1 in
+    let d = passed (ltb (length (symbols message)) (status_count message)) refused-no-yes c.1 in
+    let e = passed (ltb (length message) (deltas_end message)) refused-no-yes d.1 in
     let f = ltb-false (length (symbols message)) (status_count message) d.0 in
     record {
       told = let g = e.1 in cc;
@@ -56,20 +47,18 @@ accepted message h good =
 
 -- ---- the packets
 pub packets-good :
-    (message : List ℕ) (h : Header) → judge message ≡ Good h →
+    (message : List ℕ) (h : Header) → judge message ≡ Ok h →
     packets message ≡ packets_from (base_seq message) (pos 0) (symbols message) (drop (deltas_at message) message)
 unfolding packets
 packets-good message h good = rw good
 
-pub packets-refused : (message : List ℕ) → ((h : Header) → judge message ≡ Good h → ⊥) → packets message ≡ []
+pub packets-refused : (message : List ℕ) → ((h : Header) → judge message ≡ Ok h → ⊥) → packets message ≡ []
 unfolding packets
-packets-refused message not-Good = go (judge message) not-Good
+packets-refused message no-yes = go (judge message) no-yes
   where
-    go : (j : Judged) → ((h : Header) → j ≡ Good h → ⊥) → packets_of j message ≡ []
-    go (Good h) not-Good = absurd (not-Good h refl)
-    go CutShort not-Good = refl
-    go Reserved not-Good = refl
-    go NoStatus not-Good = refl
+    go : (j : Result Header Refusal) → ((h : Header) → j ≡ Ok h → ⊥) → packets_of j message ≡ []
+    go (Ok h) no-yes = absurd (no-yes h refl)
+    go (Err r) no-yes = refl
 
 count-from : (q : ℕ) (t : ℤ) (ss deltas : List ℕ) → length (packets_from q t ss deltas) ≡ length ss
 unfolding packets_from
@@ -77,28 +66,30 @@ count-from q t [] deltas = refl
 count-from q t (s ∷ ss) deltas = ap suc (count-from ((q + 1) % 2 ^ 16) (t +ℤ recv_delta s deltas) ss (drop s deltas))
 
 module _ (message : List ℕ) where
-  count-good : (h : Header) → judge message ≡ Good h → length (packets_from (base_seq message) (pos 0) (symbols message) (drop (deltas_at message) message)) ≡ status_count message
+  count-good : (h : Header) → judge message ≡ Ok h → length (packets_from (base_seq message) (pos 0) (symbols message) (drop (deltas_at message) message)) ≡ status_count message
   count-good h good = count-from (base_seq message) (pos 0) (symbols message) (drop (deltas_at message) message) ∙ (accepted message h good).covered
 
-  pub packets-count : (h : Header) → judge message ≡ Good h → length (packets message) ≡ status_count message
+  pub packets-count : (h : Header) → judge message ≡ Ok h → length (packets message) ≡ status_count message
   packets-count h good = rw (packets-good message h good) (count-good h good)
 
   pub packets-none-or-all : (length (packets message) ≡ 0) ⊎ (length (packets message) ≡ status_count message)
   unfolding packets
   packets-none-or-all = go (judge message) refl
     where
-      go : (j : Judged) → judge message ≡ j → (length (packets_of j message) ≡ 0) ⊎ (length (packets_of j message) ≡ status_count message)
-      go (Good h) e = inr (count-good h e)
-      go CutShort e = inl refl
-      go Reserved e = inl refl
-      go NoStatus e = inl refl
+      go : (j : Result Header Refusal) → judge message ≡ j → (length (packets_of j message) ≡ 0) ⊎ (length (packets_of j message) ≡ status_count message)
+      go (Ok h) e = inr (count-good h e)
+      go (Err r) e = inl refl
 
 -- ---- their sequence numbers
-sequence-is : (s q : ℕ) (t : ℤ) → sequence_of (packet s q t) ≡ q
-unfolding packet
-sequence-is s q t = chosen (λ p. sequence_of p ≡ q) (eqb s not_received) refl refl
+-- past the last
+abbrev pub missing : Packet
+missing = record { sequence = 0; ticks = None }
 
-sequence-from : (i q : ℕ) (t : ℤ) (ss deltas : List ℕ) → q < 2 ^ 16 → i < length ss → sequence_of (get_or (packets_from q t ss deltas) i (NotReceived 0)) ≡ (q + i) % 2 ^ 16
+sequence-is : (s q : ℕ) (t : ℤ) → (packet s q t).sequence ≡ q
+unfolding packet
+sequence-is s q t = refl
+
+sequence-from : (i q : ℕ) (t : ℤ) (ss deltas : List ℕ) → q < 2 ^ 16 → i < length ss → (get_or (packets_from q t ss deltas) i missing).sequence ≡ (q + i) % 2 ^ 16
 unfolding packets_from
 sequence-from i q t [] deltas h l = absurd (omega arith)
 sequence-from zero q t (s ∷ ss) deltas h l = sequence-is s q (t +ℤ recv_delta s deltas) ∙ omega arith
@@ -106,8 +97,8 @@ sequence-from (suc i) q t (s ∷ ss) deltas h l = sequence-from i ((q + 1) % 2 ^
 
 -- packet i, in a message of bytes
 pub packets-sequence :
-    (message : List ℕ) (h : Header) → ((i : ℕ) → get_or message i 0 < 256) → judge message ≡ Good h →
-    (i : ℕ) → i < status_count message → sequence_of (get_or (packets message) i (NotReceived 0)) ≡ (base_seq message + i) % 2 ^ 16
+    (message : List ℕ) (h : Header) → ((i : ℕ) → get_or message i 0 < 256) → judge message ≡ Ok h →
+    (i : ℕ) → i < status_count message → (get_or (packets message) i missing).sequence ≡ (base_seq message + i) % 2 ^ 16
 packets-sequence message h bytes good i l =
     rw (packets-good message h good)
     (sequence-from i (base_seq message) (pos 0) (symbols message) (drop (deltas_at message) message) (omega (arith, bytes 0, bytes 1)) (omega (arith, (accepted message h good).covered)))

@@ -1,5 +1,5 @@
 -- What each judgement says of a message, questions 14 to 16, and their order: 15 stays whatever follows the chunk with the reserved symbol, and a message cut before it fails 14.
-use Rattle.std.specs.Prelude.{◌≡◌, ℕ, zero, suc, ◌≤◌, ◌<◌, Bool, true, false, ◌||◌, List, [], ◌∷◌, ◌++◌, ◌↔◌, ◌≢◌, ◌⊎◌, eqb, ltb, length, get_or, take, drop}
+use Rattle.std.specs.Prelude.{◌≡◌, ℕ, zero, suc, ◌≤◌, ◌<◌, Bool, true, false, ◌||◌, List, [], ◌∷◌, ◌++◌, ◌↔◌, ◌≢◌, ◌⊎◌, eqb, ltb, length, get_or, take, drop, Result, Ok, Err}
 use Rattle.std.proofs.Math.Path.{refl}
 use Rattle.std.proofs.Common.{sym, subst, ◌∙◌, append_assoc, arith, length-append}
 use Rattle.std.proofs.Math.Logic.{inl, inr}
@@ -10,8 +10,9 @@ use Rattle.bool_laws.specs.Bools.{cases, chosen}
 use Rattle.status_chunk.specs.Chunk.{reserved, any_reserved}
 use Rattle.twcc.specs.Feedback.{header_bytes, status_count, read_header, chunk_symbols, symbols, deltas_end, judge}
 use Rattle.twcc.specs.Chunks.{same_test}
-use Rattle.twcc.specs.declared.Judged.{Judged}
-use Rattle.twcc.specs.declared.Judged.TheVariants.{Good, CutShort, Reserved, NoStatus}
+use Rattle.twcc.specs.declared.Header.{Header}
+use Rattle.twcc.specs.declared.Refusal.{Refusal}
+use Rattle.twcc.specs.declared.Refusal.TheVariants.{CutShort, Reserved, NoStatus}
 
 -- ---- faults
 -- the symbols of the whole chunks behind the header; those at places below the status count are counted
@@ -38,11 +39,11 @@ abbrev pub ReservedCounted : List ℕ → Type 0
 ReservedCounted message = ReservedBelow (status_count message) (symbols_there message)
 
 -- ---- what a judgement says
-abbrev pub Says : List ℕ → Judged → Type 0
-Says message (Good h) = (h ≡ read_header message) × (¬ HeaderCut message) × (status_count message ≢ 0) × (¬ ReservedCounted message) × (¬ ChunkCut message) × (¬ DeltaCut message)
-Says message CutShort = HeaderCut message ⊎ ((status_count message ≢ 0) × (¬ ReservedCounted message) × (ChunkCut message ⊎ DeltaCut message))
-Says message Reserved = (¬ HeaderCut message) × (status_count message ≢ 0) × ReservedCounted message
-Says message NoStatus = (¬ HeaderCut message) × (status_count message ≡ 0)
+abbrev pub Says : List ℕ → Result Header Refusal → Type 0
+Says message (Ok h) = (h ≡ read_header message) × (¬ HeaderCut message) × (status_count message ≢ 0) × (¬ ReservedCounted message) × (¬ ChunkCut message) × (¬ DeltaCut message)
+Says message (Err CutShort) = HeaderCut message ⊎ ((status_count message ≢ 0) × (¬ ReservedCounted message) × (ChunkCut message ⊎ DeltaCut message))
+Says message (Err Reserved) = (¬ HeaderCut message) × (status_count message ≢ 0) × ReservedCounted message
+Says message (Err NoStatus) = (¬ HeaderCut message) × (status_count message ≡ 0)
 
 -- ---- tests
 not-true : (t : Bool) → (t ≡ true → ⊥) → t ≡ false
@@ -116,19 +117,19 @@ module _ (message : List ℕ) where
       let l = length-take (status_count message) (symbols_there message) in
       same_test (length (symbols message)) (status_count message) (length (symbols_there message)) (status_count message) (λ h. omega arith) (λ h. omega arith)
 
-  judged : (j : Judged) → Says message j → judge message ≡ j
+  judged : (j : Result Header Refusal) → Says message j → judge message ≡ j
   unfolding judge
-  judged (Good h) (e, long, some, none, chunks, deltas) =
+  judged (Ok h) (e, long, some, none, chunks, deltas) =
       rw (not-ltb _ _ long, ne_eqb _ _ some, none-reserved _ _ none, short, not-ltb _ _ chunks, not-ltb _ _ deltas, e)
-  judged CutShort (inl h) = rw (lt-ltb (length message) header_bytes h)
-  judged CutShort (inr (some, none, inl h)) = rw (ne_eqb _ _ some, none-reserved _ _ none, short, lt-ltb _ _ h) (chosen (λ j. j ≡ CutShort) (ltb (length message) header_bytes) refl refl)
-  judged CutShort (inr (some, none, inr h)) =
+  judged (Err CutShort) (inl h) = rw (lt-ltb (length message) header_bytes h)
+  judged (Err CutShort) (inr (some, none, inl h)) = rw (ne_eqb _ _ some, none-reserved _ _ none, short, lt-ltb _ _ h) (chosen (λ j. j ≡ (Err CutShort)) (ltb (length message) header_bytes) refl refl)
+  judged (Err CutShort) (inr (some, none, inr h)) =
       rw (ne_eqb _ _ some, none-reserved _ _ none, lt-ltb _ _ h)
-      (chosen (λ j. j ≡ CutShort) (ltb (length message) header_bytes) refl (chosen (λ j. j ≡ CutShort) (ltb (length (symbols message)) (status_count message)) refl refl))
-  judged Reserved (long, some, r) = rw (not-ltb _ _ long, ne_eqb _ _ some, place-reserved r)
-  judged NoStatus (long, none) = rw (not-ltb _ _ long, eq-eqb _ _ none)
+      (chosen (λ j. j ≡ (Err CutShort)) (ltb (length message) header_bytes) refl (chosen (λ j. j ≡ (Err CutShort)) (ltb (length (symbols message)) (status_count message)) refl refl))
+  judged (Err Reserved) (long, some, r) = rw (not-ltb _ _ long, ne_eqb _ _ some, place-reserved r)
+  judged (Err NoStatus) (long, none) = rw (not-ltb _ _ long, eq-eqb _ _ none)
 
-  pub judgement-says : (j : Judged) → (judge message ≡ j) ↔ Says message j
+  pub judgement-says : (j : Result Header Refusal) → (judge message ≡ j) ↔ Says message j
   judgement-says j = (λ e. subst (Says message) e says, judged j)
 
 -- ---- a message by its front
@@ -174,27 +175,27 @@ module _ (front after : List ℕ) (long : header_bytes ≤ length front) where
 
 -- ---- the order of the questions
 module _ (front after : List ℕ) where
-  pub no-status-stays : judge front ≡ NoStatus → judge (front ++ after) ≡ NoStatus
+  pub no-status-stays : judge front ≡ (Err NoStatus) → judge (front ++ after) ≡ (Err NoStatus)
   no-status-stays e =
-      let s = (judgement-says front NoStatus).0 e in
+      let s = (judgement-says front (Err NoStatus)).0 e in
       let long : header_bytes ≤ length front = omega (arith, s.0) in
-      (judgement-says (front ++ after) NoStatus).1 (λ h. absurd (omega (arith, length-append front after)), front-count front after long ∙ s.1)
+      (judgement-says (front ++ after) (Err NoStatus)).1 (λ h. absurd (omega (arith, length-append front after)), front-count front after long ∙ s.1)
 
-  pub reserved-stays : judge front ≡ Reserved → judge (front ++ after) ≡ Reserved
+  pub reserved-stays : judge front ≡ (Err Reserved) → judge (front ++ after) ≡ (Err Reserved)
   reserved-stays e =
-      let s = (judgement-says front Reserved).0 e in
+      let s = (judgement-says front (Err Reserved)).0 e in
       let long : header_bytes ≤ length front = omega (arith, s.0) in
-      (judgement-says (front ++ after) Reserved).1
+      (judgement-says (front ++ after) (Err Reserved)).1
       (λ h. absurd (omega (arith, length-append front after)), λ z. s.1 (sym (front-count front after long) ∙ z), reserved-in-front front after long s.2)
 
   -- the chunk with the first counted reserved symbol is not whole in the front
-  pub cut-before-reserved : judge (front ++ after) ≡ Reserved → (¬ ReservedCounted front) → judge front ≡ CutShort
-  cut-before-reserved e none = (judgement-says front CutShort).1 (go (ltb (length front) header_bytes) refl)
+  pub cut-before-reserved : judge (front ++ after) ≡ (Err Reserved) → (¬ ReservedCounted front) → judge front ≡ (Err CutShort)
+  cut-before-reserved e none = (judgement-says front (Err CutShort)).1 (go (ltb (length front) header_bytes) refl)
     where
-      s : Says (front ++ after) Reserved
-      s = (judgement-says (front ++ after) Reserved).0 e
+      s : Says (front ++ after) (Err Reserved)
+      s = (judgement-says (front ++ after) (Err Reserved)).0 e
 
-      go : (t : Bool) → ltb (length front) header_bytes ≡ t → Says front CutShort
+      go : (t : Bool) → ltb (length front) header_bytes ≡ t → Says front (Err CutShort)
       go true t = inl (ltb-true (length front) header_bytes t)
       go false t =
           let long = ltb-false (length front) header_bytes t in

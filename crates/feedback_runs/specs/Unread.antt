@@ -1,5 +1,5 @@
 -- Messages that are alike in what is read have the same judgement and the same packets. Symbols beyond the status count and bytes after the last recv delta are not read.
-use Rattle.std.specs.Prelude.{◌≡◌, ℕ, zero, suc, ◌+◌, ◌*◌, ◌-◌, ◌%◌, ◌^◌, ◌≤◌, ◌<◌, min, Bool, ℤ, pos, ◌+ℤ◌, length, get_or, take, drop}
+use Rattle.std.specs.Prelude.{◌≡◌, ℕ, zero, suc, ◌+◌, ◌*◌, ◌-◌, ◌%◌, ◌^◌, ◌≤◌, ◌<◌, min, Bool, ℤ, pos, ◌+ℤ◌, length, get_or, take, drop, Result, Ok, Err}
 use Rattle.std.proofs.Math.Path.{refl, ap}
 use Rattle.std.proofs.Common.{sym, ◌∙◌, arith, length-append, length-take, length-drop, take-take, drop-drop, get_or-take}
 use Rattle.std.proofs.Math.Bool.{true, false, cond}
@@ -13,8 +13,7 @@ use Rattle.status_chunk.specs.Laws.{symbols-length, take-length}
 use Rattle.twcc.specs.Feedback.{read_u16, signed, header_bytes, base_seq, status_count, read_header, chunk_symbols, chunk_bytes, symbols, deltas_at, deltas_end, judge, recv_delta, packet, packets_from, packets_of, packets}
 use Rattle.twcc.specs.Chunks.{same_test}
 use Rattle.twcc.specs.declared.Header.{Header}
-use Rattle.twcc.specs.declared.Judged.{Judged}
-use Rattle.twcc.specs.declared.Judged.TheVariants.{Good, CutShort, Reserved, NoStatus}
+use Rattle.twcc.specs.declared.Refusal.{Refusal}
 use Rattle.twcc.specs.declared.Packet.{Packet}
 use Rattle.feedback_runs.specs.Packets.{accepted}
 use Rattle.feedback_runs.specs.InOrder.{chunk-symbols-turn, chunk-bytes-turn, deltas-test}
@@ -137,14 +136,12 @@ module _ (message other : List ℕ) (alike : ReadAlike message other) where
   unfolding packets
   alike-packets = rw alike-judged (go (judge message))
     where
-      go : (j : Judged) → packets_of j other ≡ packets_of j message
-      go (Good h) =
+      go : (j : Result Header Refusal) → packets_of j other ≡ packets_of j message
+      go (Ok h) =
           ap (λ (ss : List ℕ). packets_from (base_seq other) (pos 0) ss (drop (deltas_at other) other)) alike.counted
           ∙ ap (λ (k : Header). packets_from k.base_seq (pos 0) (symbols message) (drop (deltas_at other) other)) (header-same message other alike.header)
           ∙ packets-same (drop (deltas_at message) message) (drop (deltas_at other) other) (base_seq message) (pos 0) (symbols message) alike.deltas
-      go CutShort = refl
-      go Reserved = refl
-      go NoStatus = refl
+      go (Err r) = refl
 
   pub same-reading : SameReading message other
   same-reading = (alike-judged, alike-packets)
@@ -212,7 +209,7 @@ module _
 
 -- bytes after the last recv delta of a good message may be changed, cut or added
 pub after-last-delta :
-    (message other : List ℕ) (h : Header) → judge message ≡ Good h → take (deltas_end message) other ≡ take (deltas_end message) message → SameReading message other
+    (message other : List ℕ) (h : Header) → judge message ≡ Ok h → take (deltas_end message) other ≡ take (deltas_end message) message → SameReading message other
 after-last-delta message other h good e =
     let a = accepted message h good in
     let n = status_count message in

@@ -2,7 +2,6 @@
 #![tactic(auto)]
 
 ghost use Rattle.std.specs.Prelude.{◌≡◌};
-ghost use Rattle.std.specs.Float.Ieee.{to_unsigned};
 ghost use Rattle.float.specs.Float.{min, max, clamp, within, abs, ceil};
 
 // The smaller of the two; where one is a NaN the other; where they are equal the first.
@@ -52,11 +51,4 @@ pub fn ceil(x: f64) -> f64
     ensures { result ≡ ceil x }
 {
     x.ceil()
-}
-
-// Rust's `x as u64`: the whole part, held to the range of u64, and 0 for a NaN.
-pub fn as_u64(x: f64) -> u64
-    ensures { result ≡ to_unsigned 64 x }
-{
-    std::num::saturating_f64_to_u64(x)
 }

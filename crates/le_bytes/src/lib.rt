@@ -1,73 +1,52 @@
 // Numbers in bytes, the least significant byte first. What lies past a slice's end counts as 0.
 #![tactic(auto)]
 
-ghost use Rattle.std.specs.Prelude.{◌≡◌, ◌≤◌, ◌<◌, ◌^◌, get_or, length};
+ghost use Rattle.std.specs.Prelude.{◌≡◌, ℕ, ◌+◌, ◌-◌, ◌≤◌, ◌<◌, ◌++◌, get_or, length, replicate};
 ghost use Rattle.le_bytes.specs.LeBytes.{le};
 
 // The byte of s at a place.
 pub fn read_u8(s: &[u8], at: usize) -> u8
     ensures { result ≡ get_or s.now at 0 }
 {
-    if at < s.len() {
-        return s[at];
-    }
-    0
+    s.get(at).copied().unwrap_or(0)
 }
 
-// The number in the n bytes of s from place at on.
-fn number(s: &[u8], at: usize, n: usize) -> u64
-    requires { (n ≤ 8) × (at ≤ length s.now) }
-    ensures { (result ≡ le n s.now at) × (result < 256 ^ n) }
+// The bytes of s, and zeros up to N.
+fn padded<const N: usize>(s: &[u8]) -> [u8; N]
+    requires { length s.now ≤ N }
+    ensures { result ≡ s.now ++ replicate (N - length s.now) 0 }
 {
-    let mut v: u64 = 0;
-    let mut i = n;
-    while 0 < i {
-        i -= 1;
-        v = v * 256 + read_u8(s, at + i) as u64;
-    }
-    v
+    let mut bytes = [0; N];
+    bytes[..s.len()].copy_from_slice(s);
+    bytes
 }
 
-// Bytes that are all in s are joined by shifts, which compile to one load; the others go through number.
+// The N bytes of s from a place on. Bytes that are all in s are copied at once, which compiles to one load.
+fn read_bytes<const N: usize>(s: &[u8], at: usize) -> [u8; N]
+    ensures length { length result ≡ N }
+    ensures bytes { (i : ℕ) → i < N → get_or result i 0 ≡ get_or s.now (at + i) 0 }
+{
+    let rest = &s[at.min(s.len())..];
+    match rest.first_chunk() {
+        Some(bytes) => *bytes,
+        None => padded(rest),
+    }
+}
+
 pub fn read_u16(s: &[u8], at: usize) -> u16
     ensures { result ≡ le 2 s.now at }
 {
-    if s.len() <= at {
-        return 0;
-    }
-    if s.len() - at < 2 {
-        return number(s, at, 2) as u16;
-    }
-    s[at] as u16 | (s[at + 1] as u16) << 8
+    u16::from_le_bytes(read_bytes(s, at))
 }
 
 pub fn read_u32(s: &[u8], at: usize) -> u32
     ensures { result ≡ le 4 s.now at }
 {
-    if s.len() <= at {
-        return 0;
-    }
-    if s.len() - at < 4 {
-        return number(s, at, 4) as u32;
-    }
-    s[at] as u32 | (s[at + 1] as u32) << 8 | (s[at + 2] as u32) << 16 | (s[at + 3] as u32) << 24
+    u32::from_le_bytes(read_bytes(s, at))
 }
 
 pub fn read_u64(s: &[u8], at: usize) -> u64
     ensures { result ≡ le 8 s.now at }
 {
-    if s.len() <= at {
-        return 0;
-    }
-    if s.len() - at < 8 {
-        return number(s, at, 8);
-    }
-    s[at] as u64
-        | (s[at + 1] as u64) << 8
-        | (s[at + 2] as u64) << 16
-        | (s[at + 3] as u64) << 24
-        | (s[at + 4] as u64) << 32
-        | (s[at + 5] as u64) << 40
-        | (s[at + 6] as u64) << 48
-        | (s[at + 7] as u64) << 56
+    u64::from_le_bytes(read_bytes(s, at))
 }

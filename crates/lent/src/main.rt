@@ -4,13 +4,13 @@
 #![tactic(auto)]
 
 use bandwidth::Bitrate;
-use link::{Opened, Opening};
+use link::Opening;
 use std::io;
 use std::io::Read;
 use std::num::{wrapping_add_u64, wrapping_sub_u64};
 
 fn opened() -> [u64; 100] {
-    if let Opened::Accepted(opening) = Opening::judge(
+    if let Ok(opening) = Opening::judge(
         Bitrate(1_000_000.0),
         500_000_000,
         150_000_000,
@@ -109,8 +109,7 @@ fn name(rt: &impl Print, input: &mut impl Read) -> io::Result<u64> {
 fn show(rt: &impl Print, words: &[u64; 100]) -> io::Result<()> {
     if link_words::formed(words) {
         let called = link::timeout(link_words::load(words), 1_000_000_000);
-        let answer = called.answer;
-        let number = answer.number();
+        let number = questions::number(called.answer);
         return print!(rt; " {number}");
     }
     print!(rt; " -")

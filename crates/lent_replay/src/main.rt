@@ -10,8 +10,9 @@ use acked_bitrate_estimator::AckedBitrateEstimator;
 use bandwidth::{BandwidthUsage, Bitrate};
 use cases::{Case, Counts};
 use control::DelayController;
-use link::{Answer, Called};
+use link::{Called, Estimate};
 use link_state::Link;
+use questions::{Refusal, Report};
 use std::io;
 use std::io::Read;
 
@@ -27,21 +28,17 @@ fn usage(u: BandwidthUsage) -> u64 {
 }
 
 // Number, estimate, hypothesis, next timeout.
-fn answers(answer: Answer) -> [u64; 6] {
+fn answers(answer: Result<Estimate, Refusal>) -> [u64; 6] {
     match answer {
-        Answer::Accepted(e) => {
-            let bitrate = e.bitrate;
-            let hypothesis = e.hypothesis;
-            [
-                0,
-                float_bits::to_bits(bitrate.as_f64()),
-                usage(hypothesis),
-                e.next_timeout,
-                0,
-                0,
-            ]
-        }
-        Answer::Refused(refusal) => [refusal.number(), 0, 0, 0, 0, 0],
+        Ok(e) => [
+            0,
+            float_bits::to_bits(e.bitrate.as_f64()),
+            usage(e.hypothesis),
+            e.next_timeout,
+            0,
+            0,
+        ],
+        Err(refusal) => [u64::from(refusal), 0, 0, 0, 0, 0],
     }
 }
 
@@ -105,16 +102,16 @@ fn part(lists: &[u64], start: usize, n: usize) -> &[u64] {
 
 fn report(link: Link, lists: &[u64], i: Case) -> Called {
     let n = packets(i);
-    link::report(
-        link,
-        part(lists, 0, n),
-        part(lists, n, n),
-        part(lists, 2 * n, n),
-        part(lists, 3 * n, n),
-        part(lists, 4 * n, n),
-        probe(i.a, i.b),
-        i.c,
-    )
+    let report = Report {
+        sequences: part(lists, 0, n),
+        sizes: part(lists, n, n),
+        sends: part(lists, 2 * n, n),
+        remotes: part(lists, 3 * n, n),
+        receives: part(lists, 4 * n, n),
+        probe: probe(i.a, i.b),
+        moment: i.c,
+    };
+    link::report(link, report)
 }
 
 fn call(link: Link, lists: &[u64], i: Case) -> Called {

@@ -1,13 +1,14 @@
 -- The loops over a report's lists, lists gathered in the order of receipt, and a report's first no.
-use Rattle.std.specs.Prelude.{Option}
-use Prim.Native.Nat.{ℕ, zero, suc, ◌+◌, ◌-◌, ◌<◌, ◌≤◌}
+use Rattle.std.specs.Prelude.{Option, Some, None, Ok, Err, min}
+use Rattle.std.specs.Option.{ok_or}
+use Prim.Native.Nat.{ℕ, zero, suc, ◌+◌, ◌<◌, ◌≤◌}
 use native.Mathlib.Numerals.{add-one}
 use native.Mathlib.Omega.{arith}
 use mathlib.Core.Path.{◌≡◌, refl, ap, sym, ◌∙◌}
-use mathlib.Core.Bool.{Bool, true, false, ◌&&◌, and_assoc, and-true}
+use mathlib.Core.Bool.{Bool, true, false, cond, ◌&&◌}
 use mathlib.Core.List.{List, [], ◌∷◌}
-use lib.ListN.{length, take, drop, drop_of_length-le, get_or}
-use lib.Seq.{drop-cons}
+use lib.ListN.{length, take, drop, length-drop, get_or}
+use lib.Seq.{drop-cons, length-take-le}
 use Rattle.bandwidth.specs.declared.Bitrate.{Bitrate}
 use Rattle.bandwidth.specs.declared.DataSize.{DataSize}
 use Rattle.control.specs.Control as Control
@@ -17,14 +18,13 @@ use Rattle.acked_bitrate_estimator.specs.AckedBitrateEstimator as Acked
 use Rattle.acked_bitrate_estimator.specs.declared.AckedBitrateEstimator.{AckedBitrateEstimator}
 use Rattle.receive_order.specs.ReceiveOrder.{count, receive_order, order_by_receive_time, entries, gather}
 use Rattle.receive_order.specs.Laws.{gather-length, ordered-front}
-use Rattle.questions.specs.Questions.{Report, bytes_in, first_no, lists_in, number, number_or0, of_opening, of_report, of_timeout}
+use Rattle.questions.specs.Questions.{Report, bytes_in, first_no, lists_in, number, of_opening, of_report, of_timeout}
 use Rattle.questions.specs.Laws.{first_of, first-append, first-of, lengths, number-above, report-numbered}
 use Rattle.questions.specs.declared.Refusal.{Refusal}
-use Rattle.questions.specs.declared.OptionRefusal.{OptionRefusal}
-use Rattle.questions.specs.declared.OptionRefusal.TheVariants as Asked
 use Rattle.link.specs.Link.{
   Judgement,
   acknowledge,
+  acknowledged,
   accepted_with,
   data_size,
   first_no_in_order,
@@ -43,48 +43,43 @@ use Rattle.link.specs.Link.{
   turned_down,
 }
 use Rattle.link.specs.Laws.{judged-number, judged-taken, outcome-refused}
-use Rattle.link.specs.declared.Judged.{Judged}
 
--- what is left of a report's packets gives what all of them give
-pub record Left (remotes sizes : List ℕ) (first a : AckedBitrateEstimator) (yet : Bool) (i : ℕ) : Type 0 where
-  pub acked : acknowledge a (drop i remotes) (drop i sizes) ≡ acknowledge first remotes sizes
-  pub sums : (yet && sums_in a (drop i remotes) (drop i sizes)) ≡ sums_in first remotes sizes
-
+-- ---- packets to the acknowledged rate
 module _ (a : AckedBitrateEstimator) (remotes sizes : List ℕ) (i : ℕ) (hr : i < length remotes) (hs : i < length sizes) where
   abbrev next : AckedBitrateEstimator
   next = Acked.update a (get_or remotes i 0) (data_size (get_or sizes i 0))
 
-  acknowledge-turn : acknowledge a (drop i remotes) (drop i sizes) ≡ acknowledge next (drop (i + 1) remotes) (drop (i + 1) sizes)
-  unfolding acknowledge
-  acknowledge-turn = rw (add-one, drop-cons remotes i 0, drop-cons sizes i 0)
+  acknowledged-turn : acknowledged a (drop i remotes) (drop i sizes) ≡ cond (bytes_in next.sum) (acknowledged next (drop (i + 1) remotes) (drop (i + 1) sizes)) None
+  unfolding acknowledged acknowledge sums_in
+  acknowledged-turn = rw (add-one, drop-cons remotes i 0, drop-cons sizes i 0) (go (bytes_in next.sum) _ _)
+    where
+      go : (b t : Bool) (x : Option AckedBitrateEstimator) → cond (b && t) x None ≡ cond b (cond t x None) None
+      go true t x = refl
+      go false t x = refl
 
-  sums-turn : sums_in a (drop i remotes) (drop i sizes) ≡ (bytes_in next.sum && sums_in next (drop (i + 1) remotes) (drop (i + 1) sizes))
-  unfolding sums_in
-  sums-turn = rw (add-one, drop-cons remotes i 0, drop-cons sizes i 0)
+-- one packet more, of which the estimator and question 9 were asked
+module _ (remotes sizes : List ℕ) (a : AckedBitrateEstimator) {whole : Option AckedBitrateEstimator} {i : ℕ}
+    (left : acknowledged a (drop i remotes) (drop i sizes) ≡ whole) (hr : i < length remotes) (hs : i < length sizes)
+    {t n : ℕ} (et : t ≡ get_or remotes i 0) (en : n ≡ get_or sizes i 0)
+    {size : DataSize} {after : AckedBitrateEstimator} {here : Bool} (es : size ≡ data_size n) (ea : after ≡ Acked.update a t size) (eh : here ≡ bytes_in after.sum) where
+  turn : cond here (acknowledged after (drop (i + 1) remotes) (drop (i + 1) sizes)) None ≡ whole
+  turn = rw (eh, ea, es, et, en) (sym (acknowledged-turn a remotes sizes i hr hs) ∙ left)
 
-no-sizes : (a : AckedBitrateEstimator) (remotes : List ℕ) → (acknowledge a remotes [] ≡ a) × (sums_in a remotes [] ≡ true)
-unfolding acknowledge sums_in
-no-sizes a [] = (refl, refl)
-no-sizes a (t ∷ remotes) = (refl, refl)
+  pub acknowledged-more : here ≡ true → acknowledged after (drop (i + 1) remotes) (drop (i + 1) sizes) ≡ whole
+  acknowledged-more h = rw h at turn
 
-module _ {remotes sizes : List ℕ} {first a : AckedBitrateEstimator} {yet : Bool} {i : ℕ} (left : Left remotes sizes first a yet i) where
-  pub left-turn : {size : DataSize} {next : AckedBitrateEstimator} {here : Bool} → i < length remotes → i < length sizes → size ≡ data_size (get_or sizes i 0)
-      → next ≡ Acked.update a (get_or remotes i 0) size → here ≡ bytes_in next.sum → Left remotes sizes first next (yet && here) (i + 1)
-  left-turn hr hs es en eo = record {
-    acked = rw (en, es) (sym (acknowledge-turn a remotes sizes i hr hs) ∙ left.acked);
-    sums = rw (eo, en, es, and_assoc) (rw (sums-turn a remotes sizes i hr hs) at left.sums);
-  }
+  pub acknowledged-none : here ≡ false → None ≡ whole
+  acknowledged-none h = rw h at turn
 
-  end : acknowledge a (drop i remotes) (drop i sizes) ≡ a → sums_in a (drop i remotes) (drop i sizes) ≡ true
-      → (a ≡ acknowledge first remotes sizes) × (yet ≡ sums_in first remotes sizes)
-  end ea es = (sym ea ∙ left.acked, sym (and-true yet) ∙ (rw es at left.sums))
-
-  pub remotes-end : length remotes ≤ i → (a ≡ acknowledge first remotes sizes) × (yet ≡ sums_in first remotes sizes)
-  unfolding acknowledge sums_in
-  remotes-end h = end (rw (drop_of_length-le remotes h)) (rw (drop_of_length-le remotes h))
-
-  pub sizes-end : length sizes ≤ i → (a ≡ acknowledge first remotes sizes) × (yet ≡ sums_in first remotes sizes)
-  sizes-end h = end (rw (drop_of_length-le sizes h) (no-sizes a (drop i remotes)).0) (rw (drop_of_length-le sizes h) (no-sizes a (drop i remotes)).1)
+pub acknowledged-end : (remotes sizes : List ℕ) {a : AckedBitrateEstimator} {whole : Option AckedBitrateEstimator} {i : ℕ}
+    → acknowledged a (drop i remotes) (drop i sizes) ≡ whole → i ≡ min (length remotes) (length sizes) → Some a ≡ whole
+unfolding acknowledged acknowledge sums_in
+acknowledged-end remotes sizes {a} {whole} {i} left e = sym (go (drop i remotes) (drop i sizes) (omega (arith, length-drop i remotes, length-drop i sizes))) ∙ left
+  where
+    go : (r s : List ℕ) → min (length r) (length s) ≡ 0 → acknowledged a r s ≡ Some a
+    go [] s h = refl
+    go (t ∷ r) [] h = refl
+    go (t ∷ r) (n ∷ s) h = absurd (omega arith)
 
 -- what is gathered of a list by the order of receipt: room for all packets, and its front
 module _ (sequences sizes sends remotes receives : List ℕ) (y4 : lists_in sequences sizes sends remotes receives ≡ true)
@@ -95,15 +90,14 @@ module _ (sequences sizes sends remotes receives : List ℕ) (y4 : lists_in sequ
   pub gathered-room : length remotes ≤ length result
   gathered-room = omega (arith, counted, ap length er, gather-length xs order (length remotes))
 
-  pub gathered : order ≡ order_by_receive_time remotes sends sequences → take (length remotes - 0) result ≡ entries xs (receive_order remotes sends sequences)
+  pub gathered-length : length remotes ≡ length (take (length remotes) result)
+  gathered-length = sym (length-take-le (length remotes) result gathered-room)
+
+  pub gathered : order ≡ order_by_receive_time remotes sends sequences → take (length remotes) result ≡ entries xs (receive_order remotes sends sequences)
   gathered eo = front counted er
     where
-      front : {n : ℕ} → n ≡ count remotes sends sequences → result ≡ gather xs order n → take (n - 0) result ≡ entries xs (receive_order remotes sends sequences)
-      front {n} en eg = let all : n - 0 ≡ n = omega arith in rw (all, eg, eo, en) (ordered-front remotes sends sequences xs)
-
--- the number of a refusal that was told
-pub told : {n : ℕ} {p q : OptionRefusal} → number_or0 p ≡ n → p ≡ q → number_or0 q ≡ n
-told e h = rw h at e
+      front : {n : ℕ} → n ≡ count remotes sends sequences → result ≡ gather xs order n → take n result ≡ entries xs (receive_order remotes sends sequences)
+      front {n} en eg = rw (eg, eo, en) (ordered-front remotes sends sequences xs)
 
 -- ---- an opening by its first no
 module _ (start : Bitrate) (initial window : ℕ) where
@@ -146,21 +140,26 @@ module _ (a : AckedBitrateEstimator) (r : Report) where
   unfolding judge_report
   judged-before-9 q e = rw (no-before-9 q e) (by-no (number q) _ (number-above q))
 
-  pub judged-9 : {sums : Bool} → 0 ≡ first_no (of_report r) → sums ≡ sums_in a r.remotes r.sizes → sums ≡ false → record { number = 9; acked = a } ≡ judge_report a r
-  unfolding judge_report
-  judged-9 y8 e n9 = rw (no_9 y8 (sym e ∙ n9))
-
-  pub judged-yes : {sums : Bool} {after : AckedBitrateEstimator} → 0 ≡ first_no (of_report r) → sums ≡ sums_in a r.remotes r.sizes → sums ≡ true
-      → after ≡ acknowledge a r.remotes r.sizes → record { number = 0; acked = after } ≡ judge_report a r
-  unfolding judge_report
-  judged-yes y8 e y9 ea = rw (no_none y8 (sym e ∙ y9), ea)
+  pub judged-9 : {after : Option AckedBitrateEstimator} → 0 ≡ first_no (of_report r) → after ≡ acknowledged a r.remotes r.sizes
+      → judged a (ok_or after Refusal.TooManyBytes) ≡ judge_report a r
+  unfolding judge_report acknowledged
+  judged-9 y8 e = rw e (go (sums_in a r.remotes r.sizes) refl)
+    where
+      go : (t : Bool) → sums_in a r.remotes r.sizes ≡ t
+          → judged a (ok_or (cond t (Some (acknowledge a r.remotes r.sizes)) None) Refusal.TooManyBytes) ≡ judged_by (first_no_in_order a r) a (acknowledge a r.remotes r.sizes)
+      go true y9 = rw (no_none y8 y9)
+      go false n9 = rw (no_9 y8 n9)
 
   -- read off what was judged
-  pub judged-first : {j : Judged} {q : OptionRefusal} → judged j ≡ judge_report a r → j.refusal ≡ q → first_no_in_order a r ≡ number_or0 q
-  judged-first e h = sym (judged-number a r) ∙ sym (ap (λ (g : Judgement). g.number) e) ∙ ap number_or0 h
+  pub judged-no : (q : Refusal) → judged a (Err q) ≡ judge_report a r → first_no_in_order a r ≡ number q
+  judged-no q e = sym (judged-number a r) ∙ sym (ap (λ (g : Judgement). g.number) e)
 
-  pub judged-acked : {j : Judged} → judged j ≡ judge_report a r → j.refusal ≡ Asked.None → j.acked ≡ acknowledge a r.remotes r.sizes
-  judged-acked e h = ap (λ (g : Judgement). g.acked) e ∙ judged-taken a r (judged-first e h)
+  module _ {after : AckedBitrateEstimator} (e : judged a (Ok after) ≡ judge_report a r) where
+    pub judged-none : first_no_in_order a r ≡ 0
+    judged-none = sym (judged-number a r) ∙ sym (ap (λ (g : Judgement). g.number) e)
+
+    pub judged-acked : after ≡ acknowledge a r.remotes r.sizes
+    judged-acked = ap (λ (g : Judgement). g.acked) e ∙ judged-taken a r judged-none
 
 -- ---- a timeout by its first no
 module _ (l : Link) (now : ℕ) where

@@ -1,5 +1,5 @@
 -- The calls of a link: opening, report and timeout (document 01, "Link" and "The questions"). Instants, durations and windows are ns.
-use Rattle.std.specs.Prelude.{ℕ, zero, suc, ◌^◌, ◌-◌, min, Bool, true, ◌&&◌, List, [], ◌∷◌, ◌++◌, pos, Float}
+use Rattle.std.specs.Prelude.{ℕ, zero, suc, ◌^◌, ◌-◌, min, Bool, true, ◌&&◌, List, [], ◌∷◌, ◌++◌, pos, Float, Option, Some, None, Result, Ok, Err, cond}
 use Rattle.bandwidth.specs.Bandwidth.{bytes}
 use Rattle.bandwidth.specs.declared.Bitrate.{Bitrate}
 use Rattle.bandwidth.specs.declared.DataSize.{DataSize}
@@ -7,14 +7,13 @@ use Rattle.bandwidth.specs.declared.BandwidthUsage.{BandwidthUsage}
 use Rattle.acked_bitrate_estimator.specs.AckedBitrateEstimator as Acked
 use Rattle.acked_bitrate_estimator.specs.declared.AckedBitrateEstimator.{AckedBitrateEstimator}
 use Rattle.control.specs.Control as Control
-use Rattle.questions.specs.Questions.{Question, Report, bytes_in, first_no, number, number_or0, of_opening, of_report, of_timeout, ordered, question}
+use Rattle.questions.specs.Questions.{Question, Report, bytes_in, first_no, number, of_opening, of_report, of_timeout, ordered, question}
 use Rattle.link_state.specs.State.{in_range}
 use Rattle.link_state.specs.declared.Link.{Link}
 use Rattle.link.specs.declared.Opening.{Opening}
-use Rattle.link.specs.declared.Opened.{Opened}
-use Rattle.link.specs.declared.Answer.{Answer}
+use Rattle.link.specs.declared.Estimate.{Estimate}
 use Rattle.link.specs.declared.Called.{Called}
-use Rattle.link.specs.declared.Judged.{Judged}
+use Rattle.questions.specs.declared.Refusal.{Refusal}
 
 -- ---- opening
 abbrev pub new : Bitrate → ℕ → ℕ → Link
@@ -29,9 +28,9 @@ pub data Started : Type 0 where
   opened : Link → Started
   turned_down : ℕ → Started
 
-abbrev pub started : Opened → Started
-started (Opened.Accepted o) = opened (link o)
-started (Opened.Refused q) = turned_down (number q)
+abbrev pub started : Result Opening Refusal → Started
+started (Ok o) = opened (link o)
+started (Err q) = turned_down (number q)
 
 -- the number of the question that turned an opening down, or 0
 abbrev pub started_number : Started → ℕ
@@ -51,9 +50,9 @@ pub data Reply : Type 0 where
   accepted : Float → BandwidthUsage → ℕ → Reply
   refused : ℕ → Reply
 
-abbrev pub reply : Answer → Reply
-reply (Answer.Accepted e) = accepted e.bitrate.0 e.hypothesis e.next_timeout
-reply (Answer.Refused q) = refused (number q)
+abbrev pub reply : Result Estimate Refusal → Reply
+reply (Ok e) = accepted e.bitrate.0 e.hypothesis e.next_timeout
+reply (Err q) = refused (number q)
 
 -- the number of the question that turned a call down, or 0
 abbrev pub refusal : Reply → ℕ
@@ -107,6 +106,11 @@ sums_in a (t ∷ remotes) (n ∷ sizes) =
     let next = Acked.update a t (data_size n) in
     bytes_in next.sum && sums_in next remotes sizes
 
+-- the estimator after packets in the order of receipt, if 9 is answered with yes
+unfoldable pub acknowledged : AckedBitrateEstimator → List ℕ → List ℕ → Option AckedBitrateEstimator
+unfolding acknowledge sums_in
+acknowledged a remotes sizes = cond (sums_in a remotes sizes) (Some (acknowledge a remotes sizes)) None
+
 -- of a report's packets in the order of receipt
 abbrev pub question9 : AckedBitrateEstimator → Report → Question
 question9 a r = question 9 (sums_in a r.remotes r.sizes)
@@ -132,8 +136,9 @@ pub record Judgement : Type 0 where
   pub number : ℕ
   pub acked : AckedBitrateEstimator
 
-abbrev pub judged : Judged → Judgement
-judged j = record { number = number_or0 j.refusal; acked = j.acked }
+abbrev pub judged : AckedBitrateEstimator → Result AckedBitrateEstimator Refusal → Judgement
+judged before (Ok after) = record { number = zero; acked = after }
+judged before (Err q) = record { number = number q; acked = before }
 
 abbrev pub judged_by : ℕ → AckedBitrateEstimator → AckedBitrateEstimator → Judgement
 judged_by zero before after = record { number = zero; acked = after }

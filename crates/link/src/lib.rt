@@ -3,7 +3,7 @@
 #![tactic(auto)]
 
 ghost use Rattle.std.specs.Prelude.{◌≡◌, true};
-ghost use Rattle.questions.specs.Questions.{number, report-of};
+ghost use Rattle.questions.specs.Questions.{number, report as reported};
 ghost use Rattle.link_state.specs.State.{in_range};
 ghost use Rattle.link.specs.Link as Calls;
 
@@ -11,7 +11,7 @@ use acked_bitrate_estimator::AckedBitrateEstimator;
 use bandwidth::{BandwidthUsage, Bitrate, DataSize};
 use control::DelayController;
 use link_state::Link;
-use questions::{OptionRefusal, Refusal};
+use questions::{Refusal, Report};
 
 // What an accepted call returns beside the link.
 #[derive(Clone, Copy)]
@@ -22,26 +22,8 @@ pub struct Estimate {
 }
 
 #[derive(Clone, Copy)]
-pub enum Answer {
-    Accepted(Estimate),
-    Refused(Refusal),
-}
-
-impl Answer {
-    // The number of the question that turned the call down, or 0.
-    pub fn number(self) -> u64
-        ensures { result ≡ Calls.refusal (Calls.reply self) }
-    {
-        match self {
-            Answer::Accepted(_) => 0,
-            Answer::Refused(refusal) => refusal.number(),
-        }
-    }
-}
-
-#[derive(Clone, Copy)]
 pub struct Called {
-    pub answer: Answer,
+    pub answer: Result<Estimate, Refusal>,
     pub link: Link,
 }
 
@@ -53,34 +35,17 @@ pub struct Opening {
     window: u64,
 }
 
-#[derive(Clone, Copy)]
-pub enum Opened {
-    Accepted(Opening),
-    Refused(Refusal),
-}
-
-impl Opened {
-    // The number of the question that turned the opening down, or 0.
-    pub fn number(self) -> u64
-        ensures { result ≡ Calls.started_number (Calls.started self) }
-    {
-        match self {
-            Opened::Accepted(_) => 0,
-            Opened::Refused(refusal) => refusal.number(),
-        }
-    }
-}
-
 impl Opening {
     // Windows are ns.
-    pub fn judge(start_bitrate: Bitrate, initial_window: u64, window: u64) -> Opened
+    pub fn judge(
+        start_bitrate: Bitrate,
+        initial_window: u64,
+        window: u64,
+    ) -> Result<Opening, Refusal>
         ensures { Calls.started result ≡ Calls.opening start_bitrate initial_window window }
     {
-        let judged = questions::opening(start_bitrate, initial_window, window);
-        if let OptionRefusal::Some(refusal) = judged {
-            return Opened::Refused(refusal);
-        }
-        Opened::Accepted(Opening {
+        questions::opening(start_bitrate, initial_window, window)?;
+        Ok(Opening {
             start_bitrate,
             initial_window,
             window,
@@ -90,97 +55,55 @@ impl Opening {
     pub fn link(self) -> Link
         ensures { result ≡ Calls.link self }
     {
-        let start_bitrate = self.start_bitrate;
-        let acked = AckedBitrateEstimator::new(self.initial_window, self.window);
-        let control = DelayController::new(start_bitrate);
-        Link { acked, control }
+        Link {
+            acked: AckedBitrateEstimator::new(self.initial_window, self.window),
+            control: DelayController::new(self.start_bitrate),
+        }
     }
 }
 
 // ---- a report's packets to the acknowledged rate
-// The acknowledged-rate estimator after a report's packets, and whether its byte sum stayed in its limit.
-#[derive(Clone, Copy)]
-struct Acknowledged {
-    acked: AckedBitrateEstimator,
-    sums_in: bool,
-}
-
 fn data_size(n: u64) -> DataSize
     ensures { result ≡ Calls.data_size n }
 {
-    if n > 0x7fff_ffff_ffff_ffff {
-        return DataSize(0x7fff_ffff_ffff_ffff);
-    }
-    DataSize(n as i64)
+    DataSize(n.min(i64::MAX as u64) as i64)
 }
 
-// Question 9 and the estimator that it asks of, for packets in the order of receipt.
-fn acknowledge(acked: AckedBitrateEstimator, remotes: &[u64], sizes: &[u64]) -> Acknowledged
-    ensures { (result.acked ≡ Calls.acknowledge acked remotes.now sizes.now)
-        × (result.sums_in ≡ Calls.sums_in acked remotes.now sizes.now) }
+// The estimator after packets in the order of receipt, if question 9 is answered with yes.
+fn acknowledge(
+    acked: AckedBitrateEstimator,
+    remotes: &[u64],
+    sizes: &[u64],
+) -> Option<AckedBitrateEstimator>
+    ensures { result ≡ Calls.acknowledged acked remotes.now sizes.now }
 {
     let mut acked = acked;
-    let mut sums_in = true;
-    let mut i = 0;
-    while i < remotes.len() {
-        if sizes.len() <= i {
-            return Acknowledged { acked, sums_in };
+    for (remote, size) in remotes.iter().zip(sizes) {
+        acked = acked.update(*remote, data_size(*size));
+        if !questions::bytes_in(acked.sum) {
+            return None;
         }
-        acked = acked.update(remotes[i], data_size(sizes[i]));
-        let sum = acked.sum;
-        sums_in = sums_in & questions::bytes_in(sum);
-        i += 1;
     }
-    Acknowledged { acked, sums_in }
+    Some(acked)
 }
 
 // ---- report
-// What questions 4 to 9 say of a report, and the acknowledged-rate estimator after it, which a no leaves as it was.
-#[derive(Clone, Copy)]
-pub struct Judged {
-    pub refusal: OptionRefusal,
-    pub acked: AckedBitrateEstimator,
-}
-
-// Questions 4 to 9 of a report whose packets stand in the order of receipt.
+// Questions 4 to 9 of a report whose packets stand in the order of receipt, and the estimator after it.
 pub fn judge_report(
     acked: AckedBitrateEstimator,
-    sequences: &[u64],
-    sizes: &[u64],
-    sends: &[u64],
-    remotes: &[u64],
-    receives: &[u64],
-    probe: Option<Bitrate>,
-    moment: u64,
-) -> Judged
-    ensures { Calls.judged result ≡ Calls.judge_report acked (report-of sequences.now sizes.now sends.now remotes.now receives.now probe moment) }
+    report: Report,
+) -> Result<AckedBitrateEstimator, Refusal>
+    ensures { Calls.judged acked result ≡ Calls.judge_report acked (reported report.entry) }
 {
-    let refusal = questions::report(sequences, sizes, sends, remotes, receives, probe, moment);
-    if let OptionRefusal::Some(question) = refusal {
-        return Judged {
-            refusal: OptionRefusal::Some(question),
-            acked,
-        };
-    }
-    let done = acknowledge(acked, remotes, sizes);
-    if done.sums_in {
-        let acked = done.acked;
-        return Judged {
-            refusal: OptionRefusal::None,
-            acked,
-        };
-    }
-    Judged {
-        refusal: OptionRefusal::Some(Refusal::TooManyBytes),
-        acked,
-    }
+    report.judge()?;
+    acknowledge(acked, report.remotes, report.sizes).ok_or(Refusal::TooManyBytes)
 }
 
 fn refused(refusal: Refusal, link: Link) -> Called
     ensures { Calls.outcome result ≡ Calls.refused_by (number refusal) link }
 {
     Called {
-        answer: Answer::Refused(refusal),
+        answer: Err(refusal),
         link,
     }
 }
@@ -197,105 +120,66 @@ fn accepted(link: Link) -> Called
         next_timeout: control.poll_timeout(),
     };
     Called {
-        answer: Answer::Accepted(estimate),
+        answer: Ok(estimate),
         link,
     }
 }
 
 // A report to a link in range, its packets in the order of receipt.
-fn report_in_order(
-    link: Link,
-    sequences: &[u64],
-    sizes: &[u64],
-    sends: &[u64],
-    remotes: &[u64],
-    receives: &[u64],
-    probe: Option<Bitrate>,
-    moment: u64,
-) -> Called
-    ensures { Calls.outcome result ≡ Calls.report_in_order link (report-of sequences.now sizes.now sends.now remotes.now receives.now probe moment) }
+fn report_in_order(link: Link, report: Report) -> Called
+    ensures { Calls.outcome result ≡ Calls.report_in_order link (reported report.entry) }
 {
-    let acked = link.acked;
-    let control = link.control;
-    let judged = judge_report(
-        acked, sequences, sizes, sends, remotes, receives, probe, moment,
-    );
-    let refusal = judged.refusal;
-    if let OptionRefusal::Some(question) = refusal {
-        return refused(question, link);
+    match judge_report(link.acked, report) {
+        Err(refusal) => refused(refusal, link),
+        Ok(acked) => {
+            let control = link.control.update(
+                report.sends,
+                report.remotes,
+                report.receives,
+                acked.current_estimate(),
+                report.probe,
+                report.moment,
+            );
+            let updated = Link { acked, control };
+            accepted(updated)
+        }
     }
-    let acked = judged.acked;
-    let control = control.update(
-        sends,
-        remotes,
-        receives,
-        acked.current_estimate(),
-        probe,
-        moment,
-    );
-    let updated = Link { acked, control };
-    accepted(updated)
 }
 
 // A report to a link in range, its packets in any order.
-fn report_unsorted(
-    link: Link,
-    sequences: &[u64],
-    sizes: &[u64],
-    sends: &[u64],
-    remotes: &[u64],
-    receives: &[u64],
-    probe: Option<Bitrate>,
-    moment: u64,
-) -> Called
+fn report_unsorted(link: Link, report: Report) -> Called
     requires { in_range link ≡ true }
-    ensures { Calls.outcome result ≡ Calls.report link (report-of sequences.now sizes.now sends.now remotes.now receives.now probe moment) }
+    ensures { Calls.outcome result ≡ Calls.report link (reported report.entry) }
 {
-    if !questions::lists_in(sequences, sizes, sends, remotes, receives) {
+    if !report.lists_in() {
         return refused(Refusal::BadLists, link);
     }
-    let n = remotes.len();
-    let order = receive_order::order_by_receive_time(remotes, sends, sequences);
-    let sizes = receive_order::gather(sizes, &order, n);
-    let sends = receive_order::gather(sends, &order, n);
-    let receives = receive_order::gather(receives, &order, n);
-    let remotes = receive_order::gather(remotes, &order, n);
-    report_in_order(
-        link,
-        sequences,
-        &sizes[0..n],
-        &sends[0..n],
-        &remotes[0..n],
-        &receives[0..n],
-        probe,
-        moment,
-    )
+    let n = report.remotes.len();
+    let order = report.keys().order_by_receive_time();
+    let sizes = receive_order::gather(report.sizes, &order, n);
+    let sends = receive_order::gather(report.sends, &order, n);
+    let receives = receive_order::gather(report.receives, &order, n);
+    let remotes = receive_order::gather(report.remotes, &order, n);
+    let ordered = Report {
+        sizes: &sizes[..n],
+        sends: &sends[..n],
+        remotes: &remotes[..n],
+        receives: &receives[..n],
+        ..report
+    };
+    report_in_order(link, ordered)
 }
 
-// A report: its packets as five lists, a probe's result or none, and the moment.
-pub fn report(
-    link: Link,
-    sequences: &[u64],
-    sizes: &[u64],
-    sends: &[u64],
-    remotes: &[u64],
-    receives: &[u64],
-    probe: Option<Bitrate>,
-    moment: u64,
-) -> Called
-    ensures { Calls.outcome result ≡ Calls.report link (report-of sequences.now sizes.now sends.now remotes.now receives.now probe moment) }
+pub fn report(link: Link, report: Report) -> Called
+    ensures { Calls.outcome result ≡ Calls.report link (reported report.entry) }
 {
     if !link.in_range() {
         return refused(Refusal::OutOfRange, link);
     }
-    if receive_order::is_sorted(remotes, sends, sequences) {
-        return report_in_order(
-            link, sequences, sizes, sends, remotes, receives, probe, moment,
-        );
+    if report.keys().is_sorted() {
+        return report_in_order(link, report);
     }
-    report_unsorted(
-        link, sequences, sizes, sends, remotes, receives, probe, moment,
-    )
+    report_unsorted(link, report)
 }
 
 // ---- timeout
@@ -305,13 +189,12 @@ pub fn timeout(link: Link, now: u64) -> Called
     if !link.in_range() {
         return refused(Refusal::OutOfRange, link);
     }
-    let judged = questions::timeout(now);
-    if let OptionRefusal::Some(refusal) = judged {
+    if let Err(refusal) = questions::timeout(now) {
         return refused(refusal, link);
     }
-    let acked = link.acked;
-    let control = link.control;
-    let mut timed_out = link;
-    timed_out.control = control.handle_timeout(acked.current_estimate(), now);
+    let control = link
+        .control
+        .handle_timeout(link.acked.current_estimate(), now);
+    let timed_out = Link { control, ..link };
     accepted(timed_out)
 }

@@ -7,8 +7,9 @@ use acked_bitrate_estimator::AckedBitrateEstimator;
 use bandwidth::{BandwidthUsage, Bitrate};
 use cases::{Case, Counts};
 use control::DelayController;
-use link::{Called, Opened, Opening};
+use link::{Called, Opening};
 use link_state::Link;
+use questions::Report;
 use std::io;
 use std::num::wrapping_sub_usize;
 use time::TimeDelta;
@@ -92,16 +93,16 @@ fn part(lists: &[u64], start: usize, n: usize) -> &[u64] {
 }
 
 fn report(link: Link, lists: &[u64], n: usize, i: Case) -> Called {
-    link::report(
-        link,
-        part(lists, 0, length(n, i.d, 1)),
-        part(lists, 1100, length(n, i.d, 2)),
-        part(lists, 2200, length(n, i.d, 3)),
-        part(lists, 3300, length(n, i.d, 4)),
-        part(lists, 4400, length(n, i.d, 5)),
-        probe(i.a, i.b),
-        i.c,
-    )
+    let report = Report {
+        sequences: part(lists, 0, length(n, i.d, 1)),
+        sizes: part(lists, 1100, length(n, i.d, 2)),
+        sends: part(lists, 2200, length(n, i.d, 3)),
+        remotes: part(lists, 3300, length(n, i.d, 4)),
+        receives: part(lists, 4400, length(n, i.d, 5)),
+        probe: probe(i.a, i.b),
+        moment: i.c,
+    };
+    link::report(link, report)
 }
 
 fn put(lists: &mut [u64], at: usize, x: u64) {
@@ -137,21 +138,22 @@ struct Numbered {
 }
 
 fn opening(link: Link, i: Case) -> Numbered {
-    let opened = Opening::judge(Bitrate(float_bits::from_bits(i.a)), i.b, i.c);
-    let number = opened.number();
-    if let Opened::Accepted(o) = opened {
-        let link = o.link();
-        return Numbered { link, number };
+    match Opening::judge(Bitrate(float_bits::from_bits(i.a)), i.b, i.c) {
+        Ok(opening) => Numbered {
+            link: opening.link(),
+            number: 0,
+        },
+        Err(refusal) => Numbered {
+            link,
+            number: u64::from(refusal),
+        },
     }
-    Numbered { link, number }
 }
 
 fn called(called: Called) -> Numbered {
-    let link = called.link;
-    let answer = called.answer;
     Numbered {
-        link,
-        number: answer.number(),
+        link: called.link,
+        number: questions::number(called.answer),
     }
 }
 

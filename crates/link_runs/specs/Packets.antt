@@ -218,8 +218,11 @@ rounded-good : (current previous : Option ArrivalGroup) (t : TrendlineEstimator)
     → GoodTrendline previous t → GoodAfter t (accumulate_rounded current previous origin send remote)
 unfolding accumulate_rounded
 rounded-good None previous t origin send remote h k g = g
-rounded-good (Some c) previous t origin send remote h k g =
-    cases (GoodAfter t) (Group.add_packet c send remote).need_new_group (λ e. closed-good previous c t k h g) (λ e. g)
+rounded-good (Some c) previous t origin send remote h k g = added (Group.add_packet c send remote)
+  where
+    added : (a : Option ArrivalGroup) → GoodAfter t (Group.accumulate_added a c previous origin send remote)
+    added None = closed-good previous c t k h g
+    added (Some group) = g
 
 packet-good : (d : DelayDetector) (send remote : ℕ) → GoodPackets d → send ≤ most_instant → remote ≤ most_instant → GoodPackets (add_packet d send remote)
 unfolding accumulate_packet

@@ -46,8 +46,8 @@ fn ns_in(ns: Option<u64>) -> bool
 fn sum_in(sum: DataSize, elapsed: u64) -> bool
     ensures { result ≡ State.sum_in sum elapsed }
 {
-    let below = sum.lt(DataSize::ZERO);
-    let some = DataSize::ZERO.lt(sum);
+    let below = sum < DataSize::ZERO;
+    let some = DataSize::ZERO < sum;
     !below & questions::bytes_in(sum) & (some | (elapsed == 0))
 }
 
@@ -180,8 +180,8 @@ fn trendline_in(t: TrendlineEstimator) -> bool
 fn rate_control_in(c: RateControl) -> bool
     ensures { result ≡ State.rate_control_in c }
 {
-    c.min_bitrate.eq(Bitrate::MIN_ESTIMATE)
-        & c.max_bitrate.eq(Bitrate::MAX_ESTIMATE)
+    (c.min_bitrate == Bitrate::MIN_ESTIMATE)
+        & (c.max_bitrate == Bitrate::MAX_ESTIMATE)
         & c.estimated_bitrate
             .within(Bitrate::MIN_ESTIMATE, Bitrate::MAX_ESTIMATE)
         & average_in(

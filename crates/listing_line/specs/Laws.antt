@@ -1,5 +1,5 @@
 -- Laws of a line and of its writing: how long it is, which bytes it has, what it leaves in the buffer.
-use Rattle.std.specs.Prelude.{◌≡◌, Bool, true, false, cond, ltb, set, take, drop}
+use Rattle.std.specs.Prelude.{◌≡◌, Bool, true, false, cond, ltb, set}
 use Rattle.std.proofs.Math.Path.{refl}
 use Rattle.std.proofs.Common.{◌∙◌, ⊎_elim, add-zero, add-suc, suc-add, pow-suc, arith, length-append, le-leb, lt-ltb, le-ltb, ltb-true, ltb-false}
 use Prim.Native.Nat.{ℕ, zero, suc, ◌+◌, ◌*◌, ◌/◌, ◌%◌, ◌^◌, ◌≤◌, ◌<◌}
@@ -7,8 +7,9 @@ use mathlib.Core.List.Memᴰ
 use mathlib.Core.List.{List, [], ◌∷◌, ◌++◌, Memᴰ}
 use Rattle.std.proofs.Math.Nat.{one-le-pow, mod-lt}
 use Rattle.std.proofs.Math.ListN.{length}
-use Rattle.std.proofs.lemmas.List.Edits.{sets, sets-eq}
+use Rattle.std.proofs.lemmas.List.Edits.{sets}
 use Rattle.std.proofs.lemmas.Bool.{lt-leb}
+use Rattle.listing_line.specs.declared.Line.{Line}
 use Rattle.listing_line.specs.ListingLine.{digit, digits, width_by, width, decimal, hexadecimal, space, line_feed, field, line, number_line, put_line, place_after, Wrote}
 
 -- ---- the length of a line
@@ -64,10 +65,9 @@ width-gt d n i h = width_by-gt d 19 n i h
 pub length-number : (n : ℕ) → length (number_line n) ≡ width n + 1
 length-number n = simp (length-append, length_digits) (omega arith)
 
-module _ («record» number letter bits next_timeout : ℕ) where
-  pub length-line : length (line «record» number letter bits next_timeout) ≡ width «record» + width number + width next_timeout + 22
-  unfolding line
-  length-line = simp (length-append, length_digits) (omega arith)
+pub length-line : (l : Line) → length (line l) ≡ width l.record_number + width l.refusal + width l.next_timeout + 22
+unfolding line
+length-line l = simp (length-append, length_digits) (omega arith)
 
 -- ---- the bytes of a line: 0 to 9, a to f, the letter, a space, a line feed
 pub data Printed (letter x : ℕ) : Type 0 where
@@ -98,20 +98,20 @@ module _ {letter x : ℕ} where
       (λ w. digit-printed (n % b) (omega (arith, mod-lt n {m = b} h)) (Memᴰ.eq_of_singleton w))
       m
 
-pub line-printed : («record» number letter bits next_timeout x : ℕ) → Memᴰ x (line «record» number letter bits next_timeout) → Printed letter x
+pub line-printed : (l : Line) (x : ℕ) → Memᴰ x (line l) → Printed l.letter x
 unfolding line
-line-printed «record» number letter bits next_timeout x =
+line-printed l x =
     in_either _
     (in_either _
     (in_either _
     (in_either _
-    (ended (decimal «record») (digits-printed 10 (width «record») «record» (omega arith) (omega arith)) a-space)
-    (ended (decimal number) (digits-printed 10 (width number) number (omega arith) (omega arith)) a-space))
-    (ended (letter ∷ []) (λ m. the-letter (Memᴰ.eq_of_singleton m)) a-space))
-    (ended (hexadecimal bits) (digits-printed 16 16 bits (omega arith) (omega arith)) a-space))
-    (ended (decimal next_timeout) (digits-printed 10 (width next_timeout) next_timeout (omega arith) (omega arith)) a-line-feed)
+    (ended (decimal l.record_number) (digits-printed 10 (width l.record_number) l.record_number (omega arith) (omega arith)) a-space)
+    (ended (decimal l.refusal) (digits-printed 10 (width l.refusal) l.refusal (omega arith) (omega arith)) a-space))
+    (ended (l.letter ∷ []) (λ m. the-letter (Memᴰ.eq_of_singleton m)) a-space))
+    (ended (hexadecimal l.bits) (digits-printed 16 16 l.bits (omega arith) (omega arith)) a-space))
+    (ended (decimal l.next_timeout) (digits-printed 10 (width l.next_timeout) l.next_timeout (omega arith) (omega arith)) a-line-feed)
   where
-    ended : (text : List ℕ) {end : ℕ} → (Memᴰ x text → Printed letter x) → (x ≡ end → Printed letter x) → Memᴰ x (field text end) → Printed letter x
+    ended : (text : List ℕ) {end : ℕ} → (Memᴰ x text → Printed l.letter x) → (x ≡ end → Printed l.letter x) → Memᴰ x (field text end) → Printed l.letter x
     ended text f g = in_either text f (λ m. g (Memᴰ.eq_of_singleton m))
 
 -- ---- the buffer

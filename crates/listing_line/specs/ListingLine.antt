@@ -1,6 +1,7 @@
 -- Document 01, pass file and program: a line of the listing in ASCII, and the buffer that it is written into.
 use Rattle.std.specs.Prelude.{◌≡◌, ℕ, zero, suc, ◌+◌, ◌/◌, ◌%◌, Bool, cond, List, [], ◌∷◌, ◌++◌, leb, ltb, length}
 use Rattle.std.proofs.lemmas.List.Edits.{sets}
+use Rattle.listing_line.specs.declared.Line.{Line}
 
 -- a digit below 16: `0` to `9`, then `a` to `f`
 abbrev pub digit : ℕ → ℕ
@@ -38,14 +39,14 @@ abbrev pub field : List ℕ → ℕ → List ℕ
 field text end = text ++ (end ∷ [])
 
 -- record number, refusal number or 0, hypothesis letter, estimate bits, next timeout
-unfoldable pub line : ℕ → ℕ → ℕ → ℕ → ℕ → List ℕ
+unfoldable pub line : Line → List ℕ
 unfolding digits width
-line «record» number letter bits next_timeout =
-    field (decimal «record») space
-    ++ field (decimal number) space
-    ++ field (letter ∷ []) space
-    ++ field (hexadecimal bits) space
-    ++ field (decimal next_timeout) line_feed
+line l =
+    field (decimal l.record_number) space
+    ++ field (decimal l.refusal) space
+    ++ field (l.letter ∷ []) space
+    ++ field (hexadecimal l.bits) space
+    ++ field (decimal l.next_timeout) line_feed
 
 -- a number alone on a line
 abbrev pub number_line : ℕ → List ℕ

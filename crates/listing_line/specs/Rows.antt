@@ -9,10 +9,10 @@ unfoldable pub bytes : String → List ℕ
 bytes [] = []ᴸ
 bytes (c ∷ text) = code c ∷ᴸ bytes text
 
-pub record-1 : line 1 0 (code "N") 0x412e848000000000 1025000000 ≡ bytes "1 0 N 412e848000000000 1025000000\n"
+pub record-1 : line (record { record_number = 1; refusal = 0; letter = code "N"; bits = 0x412e848000000000; next_timeout = 1025000000 }) ≡ bytes "1 0 N 412e848000000000 1025000000\n"
 unfolding line bytes
 record-1 = refl
 
-pub record-3 : line 3 0 (code "N") 0x413e848000000000 1035000000 ≡ bytes "3 0 N 413e848000000000 1035000000\n"
+pub record-3 : line (record { record_number = 3; refusal = 0; letter = code "N"; bits = 0x413e848000000000; next_timeout = 1035000000 }) ≡ bytes "3 0 N 413e848000000000 1035000000\n"
 unfolding line bytes
 record-3 = refl

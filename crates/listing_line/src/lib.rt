@@ -2,122 +2,111 @@
 #![tactic(auto)]
 
 ghost use Rattle.std.specs.Prelude.{◌≡◌, [], ◌∷◌, ◌+◌, ◌≤◌, ◌<◌, length};
-ghost use Rattle.listing_line.specs.ListingLine as Line;
+ghost use Rattle.listing_line.specs.ListingLine as Listing;
 
-// The digit d in base b. A string is put on the stack where it is read, which the digits of base 10 can do without.
-fn digit(d: u8, b: u64) -> u8
-    requires { (d < b) × (b ≤ 16) }
-    ensures { result ≡ Line.digit d }
+const DIGITS: [u8; 16] = *b"0123456789abcdef";
+
+// A digit below 16. By a table: with a choice between b'0' + d and b'a' - 10 + d a line takes 46 ns for 39.
+fn digit(d: u8) -> u8
+    requires { d < 16 }
+    ensures { result ≡ Listing.digit d }
 {
-    if b == 10 {
-        return b'0' + d;
-    }
-    let digits = b"0123456789abcdef";
-    digits[d as usize]
+    DIGITS[d as usize]
 }
 
 // How many digits n takes in base 10.
 fn width(n: u64) -> usize
-    ensures { (result ≡ Line.width n) × (result ≤ 20) }
+    ensures value { result ≡ Listing.width n }
+    ensures bound { result ≤ 20 }
 {
-    let mut w = 1;
-    let mut power: u64 = 10;
-    while w < 19 {
-        if n < power {
-            return w;
-        }
-        power *= 10;
-        w += 1;
-    }
-    if n < power { 19 } else { 20 }
+    1 + n.checked_ilog10().unwrap_or(0) as usize
 }
 
-// The last k digits of n in base b, from the last to the first, and the byte that ends them.
-fn put_digits(out: &mut [u8], at: usize, n: u64, b: u64, k: usize, end: u8) -> usize
-    requires { (1 < b) × (b ≤ 16) × (at + k < length out.old) }
-    ensures { Line.Wrote out.old at (Line.field (Line.digits b k n) end) out.new result }
+// The last k digits of n, from the last to the first, and the byte that ends them.
+fn put_digits<const BASE: u64>(out: &mut [u8], at: usize, n: u64, k: usize, end: u8) -> usize
+    requires base { (1 < BASE) × (BASE ≤ 16) }
+    requires room { at + k < length out.old }
+    ensures wrote { Listing.Wrote out.old at (Listing.field (Listing.digits BASE k n) end) out.new result }
+    ensures place { result ≡ at + k + 1 }
 {
-    let mut i = k;
     let mut rest = n;
-    while 0 < i {
-        i -= 1;
-        out[at + i] = digit((rest % b) as u8, b);
-        rest /= b;
+    for i in (0..k).rev() {
+        out[at + i] = digit((rest % BASE) as u8);
+        rest /= BASE;
     }
     out[at + k] = end;
     at + k + 1
 }
 
+fn put_decimal(out: &mut [u8], at: usize, n: u64, end: u8) -> usize
+    requires { at + Listing.width n < length out.old }
+    ensures wrote { Listing.Wrote out.old at (Listing.field (Listing.decimal n) end) out.new result }
+    ensures place { result ≡ at + Listing.width n + 1 }
+{
+    put_digits::<10>(out, at, n, width(n), end)
+}
+
 fn put_letter(out: &mut [u8], at: usize, letter: u8, end: u8) -> usize
     requires { at + 1 < length out.old }
-    ensures { Line.Wrote out.old at (Line.field (letter ∷ []) end) out.new result }
+    ensures wrote { Listing.Wrote out.old at (Listing.field (letter ∷ []) end) out.new result }
+    ensures place { result ≡ at + 2 }
 {
     out[at] = letter;
     out[at + 1] = end;
     at + 2
 }
 
-// The five fields, where they have room; the three numbers take so many digits.
-fn put_fields(
-    out: &mut [u8],
-    at: usize,
-    record: u64,
-    number: u64,
-    letter: u8,
-    bits: u64,
-    next_timeout: u64,
-    record_width: usize,
-    number_width: usize,
-    timeout_width: usize,
-) -> usize
-    requires record_width_value { (record_width ≡ Line.width «record») × (number_width ≡ Line.width number) × (timeout_width ≡ Line.width next_timeout) }
-    requires next_timeout_in_bounds { at + length (Line.line «record» number letter bits next_timeout) ≤ length out.old }
-    ensures { Line.Wrote out.old at (Line.line «record» number letter bits next_timeout) out.new result }
-{
-    let a = put_digits(out, at, record, 10, record_width, 32);
-    let b = put_digits(out, a, number, 10, number_width, 32);
-    let c = put_letter(out, b, letter, 32);
-    let d = put_digits(out, c, bits, 16, 16, 32);
-    put_digits(out, d, next_timeout, 10, timeout_width, 10)
+// A line of the listing: the number of a record, that of a refusal or 0, a hypothesis's letter, an estimate's bits, and the next timeout.
+#[derive(Clone, Copy)]
+pub struct Line {
+    pub record_number: u64,
+    pub refusal: u64,
+    pub letter: u8,
+    pub bits: u64,
+    pub next_timeout: u64,
 }
 
-// Writes the line from place at on and returns the place after it. Without room for all of it nothing is written, and at is returned.
-// A line has three numbers, a letter, 16 digits and the bytes that end the fields.
-pub fn put_line(
-    out: &mut [u8],
-    at: usize,
-    record: u64,
-    number: u64,
-    letter: u8,
-    bits: u64,
-    next_timeout: u64,
-) -> usize
-    ensures out_after { out.new ≡ Line.put_line out.old at (Line.line «record» number letter bits next_timeout) }
-    ensures value { result ≡ Line.place_after out.old at (Line.line «record» number letter bits next_timeout) }
-{
-    let a = width(record);
-    let b = width(number);
-    let c = width(next_timeout);
-    if out.len() < at {
-        return at;
+impl Line {
+    // How many bytes it has: three numbers, a letter, 16 digits and the bytes that end the fields.
+    fn bytes(self) -> usize
+        ensures { result ≡ length (Listing.line self) }
+    {
+        width(self.record_number) + width(self.refusal) + width(self.next_timeout) + 22
     }
-    if out.len() - at < a + b + c + 22 {
-        return at;
+
+    #[tactic(auto, using(crate::proofs::Writing::lengths))]
+    fn put_fields(self, out: &mut [u8], at: usize) -> usize
+        requires { at + length (Listing.line self) ≤ length out.old }
+        ensures { Listing.Wrote out.old at (Listing.line self) out.new result }
+    {
+        let at = put_decimal(out, at, self.record_number, b' ');
+        let at = put_decimal(out, at, self.refusal, b' ');
+        let at = put_letter(out, at, self.letter, b' ');
+        let at = put_digits::<16>(out, at, self.bits, 16, b' ');
+        put_decimal(out, at, self.next_timeout, b'\n')
     }
-    put_fields(out, at, record, number, letter, bits, next_timeout, a, b, c)
+
+    #[tactic(auto, using(crate::proofs::Writing::lengths), unfolding(crate::specs::ListingLine::put_line, crate::specs::ListingLine::place_after))]
+    // Writes it from place at on and returns the place after it. Without room for all of it nothing is written, and at is returned.
+    pub fn put(self, out: &mut [u8], at: usize) -> usize
+        ensures out_after { out.new ≡ Listing.put_line out.old at (Listing.line self) }
+        ensures value { result ≡ Listing.place_after out.old at (Listing.line self) }
+    {
+        if out.len().saturating_sub(at) < self.bytes() {
+            return at;
+        }
+        self.put_fields(out, at)
+    }
 }
 
 // The same of a number alone on a line.
+#[tactic(auto, using(crate::proofs::Writing::lengths), unfolding(crate::specs::ListingLine::put_line, crate::specs::ListingLine::place_after))]
 pub fn put_number(out: &mut [u8], at: usize, number: u64) -> usize
-    ensures out_after { out.new ≡ Line.put_line out.old at (Line.number_line number) }
-    ensures value { result ≡ Line.place_after out.old at (Line.number_line number) }
+    ensures out_after { out.new ≡ Listing.put_line out.old at (Listing.number_line number) }
+    ensures value { result ≡ Listing.place_after out.old at (Listing.number_line number) }
 {
-    let w = width(number);
-    if out.len() < at {
+    if out.len().saturating_sub(at) <= width(number) {
         return at;
     }
-    if out.len() - at <= w {
-        return at;
-    }
-    put_digits(out, at, number, 10, w, 10)
+    put_decimal(out, at, number, b'\n')
 }

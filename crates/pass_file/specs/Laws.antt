@@ -1,10 +1,8 @@
 -- Laws of a listing: it is the text of one run of a link from an accepted opening, line after line, and how long it is.
-use Rattle.std.specs.Prelude.{ℕ, zero, suc, ◌*◌, ◌^◌, ◌≤◌, ◌≡◌, eqb, length}
+use Rattle.std.specs.Prelude.{ℕ, zero, suc, ◌*◌, ◌^◌, ◌≤◌, ◌≡◌, Result, Ok, Err, eqb, length}
 use Rattle.std.proofs.Math.Path.{refl, sym}
 use mathlib.Core.List.{List, [], ◌∷◌, ◌++◌, map, append_assoc}
 use Rattle.std.proofs.Common.{arith, length-append}
-use Rattle.std.specs.Float.{binary64}
-use Rattle.std.specs.Float.Ieee.{to_bits}
 use Rattle.float_order.specs.Range.{In, nat}
 use Rattle.float_order.specs.Interval.{floats}
 use Rattle.bandwidth.specs.Bandwidth.{bps}
@@ -18,12 +16,11 @@ use Rattle.link_runs.specs.Statement.{Call, call, report, timeout, run}
 use Rattle.link_runs.specs.Good.{Good, call-good, run-good, opening-good}
 use Rattle.link_runs.proofs.Demand3.{demand-3}
 use Rattle.pass_records.specs.PassRecords as Records
-use Rattle.pass_records.specs.PassRecords.{chain, judge, kind, most_records, most_short, number, record_at, record_count}
+use Rattle.pass_records.specs.PassRecords.{chain, judge, kind, most_records, most_short, record_at, record_count}
 use Rattle.pass_records.specs.Laws.{Rising, least-enough, linked-file}
-use Rattle.pass_records.specs.declared.Judged.{Judged}
-use Rattle.pass_records.specs.declared.Judged.TheVariants.{Linked, BadLength, BadKind, BadNext, ShortOutput}
+use Rattle.pass_records.specs.declared.FileRefusal.{FileRefusal}
 use Rattle.listing_line.proofs.Lines.{line-short}
-use Rattle.pass_file.specs.PassFile.{Numbered, answer_unless, calls, first, letter, lines, list, listed, listing, shown}
+use Rattle.pass_file.specs.PassFile.{Numbered, answer, calls, first, line_of, lines, list, listing, shown}
 
 -- ---- the length of a line
 -- no question has a number above n
@@ -51,7 +48,7 @@ pub shown-short : (l : Link) (c : Call) (k : ℕ) → Good l → k ≤ most_reco
 unfolding shown
 shown-short l c k g h =
     let after = (call l c).link in
-    line-short k (refusal (call l c).reply) (letter (hypothesis after)) (to_bits binary64 (estimate after)) (next_timeout after)
+    line-short (line_of k (refusal (call l c).reply) after.control)
     h
     (omega (arith, refusal-most l c))
     (omega (arith, (call-good l c g).timeout))
@@ -144,7 +141,7 @@ pub record ListingOfRun (file : List ℕ) : Type 0 where
   pub few : length (file_calls file) ≤ record_count file
   pub short : length (listing file) ≤ 48 * record_count file
 
-module _ (most : ℕ) (m : most ≤ most_records) (file : List ℕ) (output : ℕ) (e : judge most file output ≡ Linked) where
+module _ (most : ℕ) (m : most ≤ most_records) (file : List ℕ) (output : ℕ) (e : judge most file output ≡ Ok tt) where
   pub listing-of-run : ListingOfRun file
   unfolding listing
   listing-of-run =
@@ -171,27 +168,20 @@ module _ (most : ℕ) (m : most ≤ most_records) (file : List ℕ) (output : �
   listing-fits = omega (arith, listing-of-run.short, least-enough (record_count file), (linked-file most file output e).enough)
 
 -- ---- the answer to a file
-pub number-linked : (j : Judged) → number j ≡ 0 → j ≡ Linked
-number-linked Linked e = refl
-number-linked BadLength e = cc
-number-linked BadKind e = cc
-number-linked BadNext e = cc
-number-linked ShortOutput e = cc
-
-answer-listed : (question : ℕ) (text : List ℕ) (n : ℕ) → answer_unless question text ≡ listed n → (question ≡ 0) × (n ≡ length text)
-answer-listed zero text n e = (refl, cc)
-answer-listed (suc question) text n e = absurd (let z : ◌≡◌ {A = ℕ} 0 1 = cc in omega arith)
+answer-listed : (judged : Result (Unit {0}) FileRefusal) (text : List ℕ) (n : ℕ) → answer judged text ≡ Ok n → (judged ≡ Ok tt) × (n ≡ length text)
+answer-listed (Ok linked) text n e = (refl, cc)
+answer-listed (Err refusal) text n e = cc
 
 -- what is told of a file that is listed
 pub record ListedFile (most : ℕ) (file : List ℕ) (output n : ℕ) : Type 0 where
-  pub linked : judge most file output ≡ Linked
+  pub linked : judge most file output ≡ Ok tt
   pub whole : n ≡ length (listing file)
 
-pub list-listed : (most : ℕ) (file : List ℕ) (output n : ℕ) → list most file output ≡ listed n → ListedFile most file output n
+pub list-listed : (most : ℕ) (file : List ℕ) (output n : ℕ) → list most file output ≡ Ok n → ListedFile most file output n
 unfolding list
 list-listed most file output n e =
-    let l = answer-listed (number (judge most file output)) (listing file) n e in
-    record { linked = number-linked (judge most file output) l.0; whole = l.1 }
+    let l = answer-listed (judge most file output) (listing file) n e in
+    record { linked = l.0; whole = l.1 }
 
 -- a listing that is answered has room in 48 bytes a record of the file, and in the output
 pub record ShortListing (most : ℕ) (file : List ℕ) (output n : ℕ) : Type 0 where
@@ -201,7 +191,7 @@ pub record ShortListing (most : ℕ) (file : List ℕ) (output n : ℕ) : Type 0
   -- which are 65,520 bytes at most where the file has up to 1,365 records
   pub a-short-file : record_count file ≤ most_short → n ≤ 65520
 
-pub list-short : (most : ℕ) (file : List ℕ) (output n : ℕ) → most ≤ most_records → list most file output ≡ listed n → ShortListing most file output n
+pub list-short : (most : ℕ) (file : List ℕ) (output n : ℕ) → most ≤ most_records → list most file output ≡ Ok n → ShortListing most file output n
 list-short most file output n m e =
     let l = list-listed most file output n e in
     let r = listing-of-run most m file output l.linked in

@@ -1,6 +1,6 @@
 -- The listing of document 01's example, computed from the definitions.
 use Prim.Native.Char.{code}
-use Rattle.std.specs.Prelude.{◌≡◌, true, [], ◌∷◌, ◌++◌, Some}
+use Rattle.std.specs.Prelude.{◌≡◌, true, [], ◌∷◌, ◌++◌, Ok, Some}
 use Rattle.std.proofs.Math.Path.{refl, sym}
 use Rattle.std.proofs.Common.{ap, subst, ◌∙◌}
 use Rattle.std.specs.Float.{binary64}
@@ -26,7 +26,7 @@ use Rattle.pass_records.specs.PassRecords.{most_records, record_at}
 use Rattle.pass_records.specs.Rows.{example, example-linked, example-chain}
 use Rattle.listing_line.specs.ListingLine.{line}
 use Rattle.listing_line.specs.Rows.{bytes, record-1, record-3}
-use Rattle.pass_file.specs.PassFile.{Numbered, calls, first, lines, list, listed, listing, shown}
+use Rattle.pass_file.specs.PassFile.{Numbered, calls, first, lines, list, listing, shown}
 use Rattle.pass_file.specs.Laws.{file_calls, first-opened}
 
 -- record 3's report: no packets, a probe of 2,000,000
@@ -66,11 +66,11 @@ report-taken =
     let none : first_no_in_order second.acked probed ≡ 0 = unfold first_no_in_order Q.first_no of_report lists_in instants_in every moment_in probe_in sums_in floats in refl in
     sym (report-sorted second probed second-in-range (unfold is_sorted in refl)) ∙ rw none
 
-first-line : shown 1 (accepted_with second) ≡ line 1 0 (code "N") 0x412e848000000000 1025000000
+first-line : shown 1 (accepted_with second) ≡ line (record { record_number = 1; refusal = 0; letter = code "N"; bits = 0x412e848000000000; next_timeout = 1025000000 })
 unfolding shown accepted_with timed_out Control.handle_timeout Control.trendline_hypothesis_valid Control.with_rate Control.wait Control.get_smoothed_rtt Control.new saturating_add floats to_bits
 first-line = refl
 
-second-line : shown 3 (accepted_with (updated second probed)) ≡ line 3 0 (code "N") 0x413e848000000000 1035000000
+second-line : shown 3 (accepted_with (updated second probed)) ≡ line (record { record_number = 3; refusal = 0; letter = code "N"; bits = 0x413e848000000000; next_timeout = 1035000000 })
 unfolding shown accepted_with timed_out updated Control.handle_timeout Control.trendline_hypothesis_valid Control.with_rate Control.new Control.update Control.update_estimate Control.with_packets Control.fold RateControl.set_probe_result RateControl.update_estimate RateControl.with_estimate Bandwidth.clamp Float.helpers saturating_add to_bits
 second-line = refl
 
@@ -86,6 +86,6 @@ example-listing =
     ∙ two-lines first one three timeout-taken report-taken
     ∙ rw (first-line, second-line, record-1, record-3)
 
-pub example-answer : list most_records example 65536 ≡ listed 68
+pub example-answer : list most_records example 65536 ≡ Ok 68
 unfolding list bytes
 example-answer = rw (example-linked, example-listing)

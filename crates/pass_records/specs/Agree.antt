@@ -1,11 +1,10 @@
 -- Files that agree along a chain: records that are not linked do not matter.
 use Prim.Native.Nat.{ℕ, zero, suc, ◌-◌}
-use Rattle.std.specs.Prelude.{◌≡◌, length}
+use Rattle.std.specs.Prelude.{◌≡◌, Option, Some, None, Result, Ok, Err, length}
 use Rattle.std.proofs.Math.Path.{refl}
 use Rattle.std.proofs.Common.{ap}
 use mathlib.Core.List.{List, [], ◌∷◌, Memᴰ}
-use Rattle.pass_records.specs.declared.Following.{Following}
-use Rattle.pass_records.specs.declared.Following.TheVariants.{Next, End, BadKind, BadNext}
+use Rattle.pass_records.specs.declared.FileRefusal.{FileRefusal}
 use Rattle.pass_records.specs.PassRecords.{record_count, record_at, successor, onward, steps, chain_from, chain, judge_along, judge}
 
 module _ (f g : List ℕ) where
@@ -19,11 +18,10 @@ module _ (f g : List ℕ) where
     pub records : AllSame (chain f)
 
   -- ---- the chain
-  onward-same : (t : Following) (a b : ℕ → List ℕ) → ((n : ℕ) → AllSame (a n) → a n ≡ b n) → AllSame (onward t a) → onward t a ≡ onward t b
-  onward-same (Next n) a b h s = h n s
-  onward-same End a b h s = refl
-  onward-same BadKind a b h s = refl
-  onward-same BadNext a b h s = refl
+  onward-same : (t : Result (Option ℕ) FileRefusal) (a b : ℕ → List ℕ) → ((n : ℕ) → AllSame (a n) → a n ≡ b n) → AllSame (onward t a) → onward t a ≡ onward t b
+  onward-same (Ok (Some n)) a b h s = h n s
+  onward-same (Ok None) a b h s = refl
+  onward-same (Err refusal) a b h s = refl
 
   steps-same : (n last k : ℕ) → AllSame (steps n f last k) → steps n f last k ≡ steps n g last k
   unfolding steps

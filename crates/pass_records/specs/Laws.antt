@@ -2,7 +2,7 @@
 use Rattle.std.proofs.Math.Path.{◌≡◌, refl, ap}
 use Rattle.std.proofs.Common.{sym, subst, ◌∙◌, ⊎_elim, length-take-le, take_all}
 use Prim.Native.Nat.{ℕ, zero, suc, ◌+◌, ◌*◌, ◌-◌, ◌%◌, ◌≤◌, ◌<◌}
-use Rattle.std.specs.Prelude.{Bool, false, ◌&&◌, cond, eqb, ltb, length}
+use Rattle.std.specs.Prelude.{Bool, false, ◌&&◌, cond, Option, Some, None, Result, Ok, Err, eqb, ltb, length}
 use Rattle.std.proofs.Math.Bool.{true, and-false}
 use mathlib.Core.List.Memᴰ
 use mathlib.Core.List.{List, [], ◌∷◌, Memᴰ}
@@ -10,10 +10,11 @@ use native.Mathlib.Omega.{arith}
 use Rattle.std.proofs.Math.Dec.{leb}
 use borrow.Author.Tests.{ne_eqb, le-leb, lt-leb, ltb-true, leb-true, leb-false, eqb-true, eqb-false}
 use Rattle.bool_laws.specs.Bools.{both, cases}
-use Rattle.pass_records.specs.declared.Following.{Following}
-use Rattle.pass_records.specs.declared.Following.TheVariants.{Next, End, BadKind, BadNext}
-use Rattle.pass_records.specs.declared.Judged.{Judged}
-use Rattle.pass_records.specs.declared.Judged.TheVariants as J
+use Rattle.pass_records.specs.declared.FileRefusal.{FileRefusal}
+use Rattle.pass_records.specs.declared.FileRefusal.TheVariants.{BadLength, BadKind, BadNext, ShortOutput}
+use Rattle.pass_records.specs.declared.Kind.{Kind}
+use Rattle.pass_records.specs.declared.Kind.TheVariants.{Packet, Report, Timeout}
+use Rattle.std.specs.Result.{result_unwrap_or}
 use Rattle.pass_records.specs.PassRecords.{
   record_bytes,
   most_records,
@@ -25,6 +26,7 @@ use Rattle.pass_records.specs.PassRecords.{
   timeout,
   whole_records,
   record_count,
+  kind_of,
   kind,
   flag,
   next,
@@ -59,11 +61,30 @@ pub record Followed (bytes : List ℕ) (last k n : ℕ) : Type 0 where
   pub above : k < n
   pub within : n ≤ last
 
-abbrev pub Told : List ℕ → ℕ → ℕ → Following → Type 0
-Told bytes last k (Next n) = Followed bytes last k n
-Told bytes last k End = Formed bytes × (next bytes ≡ 0)
-Told bytes last k BadKind = well_formed bytes ≡ false
-Told bytes last k BadNext = Formed bytes
+abbrev pub Told : List ℕ → ℕ → ℕ → Result (Option ℕ) FileRefusal → Type 0
+Told bytes last k (Ok (Some n)) = Followed bytes last k n
+Told bytes last k (Ok None) = Formed bytes × (next bytes ≡ 0)
+Told bytes last k (Err BadKind) = well_formed bytes ≡ false
+Told bytes last k (Err BadNext) = Formed bytes
+Told bytes last k (Err BadLength) = ⊥
+Told bytes last k (Err ShortOutput) = ⊥
+
+-- ---- the kinds, where a byte that stands for none is taken for a timeout
+module _ (n : ℕ) where
+  by_kind : (P : Kind → Type 0) → (n ≡ packet → P Packet) → (n ≡ report → P Report) → ((n ≡ packet → ⊥) → (n ≡ report → ⊥) → P Timeout) → P (result_unwrap_or (kind_of n) Timeout)
+  by_kind P p r t =
+      cases (λ k. P (result_unwrap_or k Timeout)) (eqb n packet) (λ e. p (eqb-true n packet e))
+      (λ e. cases (λ k. P (result_unwrap_or k Timeout)) (eqb n report) (λ f. r (eqb-true n report f))
+      (λ f. cases (λ k. P (result_unwrap_or k Timeout)) (eqb n timeout) (λ g. t (eqb-false n packet e) (eqb-false n report f)) (λ g. t (eqb-false n packet e) (eqb-false n report f))))
+
+  pub kind-packet : result_unwrap_or (kind_of n) Timeout ≡ Packet → n ≡ packet
+  kind-packet = by_kind (λ k. k ≡ Packet → n ≡ packet) (λ e h. e) (λ e h. cc) (λ e f h. cc)
+
+  pub kind-report : result_unwrap_or (kind_of n) Timeout ≡ Report → n ≡ report
+  kind-report = by_kind (λ k. k ≡ Report → n ≡ report) (λ e h. cc) (λ e h. e) (λ e f h. cc)
+
+  pub kind-other : result_unwrap_or (kind_of n) Timeout ≡ Timeout → (n ≡ packet → ⊥) × (n ≡ report → ⊥)
+  kind-other = by_kind (λ k. k ≡ Timeout → (n ≡ packet → ⊥) × (n ≡ report → ⊥)) (λ e h. cc) (λ e h. cc) (λ e f h. (e, f))
 
 -- ---- a file
 -- what question 10 asks of its length
@@ -81,7 +102,7 @@ Rising low last (k ∷ ks) = (low < k) × ((k ≤ last) × Rising k last ks)
 -- record k is on a chain that is linked
 pub record OnChain (file : List ℕ) (last k : ℕ) : Type 0 where
   pub within : k ≤ last
-  pub linked : judge_along file last (chain_from file last k) ≡ J.Linked
+  pub linked : judge_along file last (chain_from file last k) ≡ Ok tt
 
 -- of such a record: the chain from it on, by the number that it names
 pub record Onward (file : List ℕ) (last k n : ℕ) : Type 0 where
@@ -142,11 +163,11 @@ pub least-most : (records : ℕ) → records ≤ most_records → least_output r
 least-most records m = least_by (λ n. n ≤ most_records * output_per_record) records (λ h. omega arith) (λ h. omega arith)
 
 -- how much output a length wants, where question 10 takes it
-pub room-taken : (most bytes : ℕ) → length_in most bytes ≡ true → room most bytes ≡ least_output (whole_records bytes)
+pub room-taken : (most bytes : ℕ) → length_in most bytes ≡ true → room most bytes ≡ Ok (least_output (whole_records bytes))
 unfolding room
 room-taken most bytes h = rw h
 
-pub room-refused : (most bytes : ℕ) → length_in most bytes ≡ false → room most bytes ≡ 0
+pub room-refused : (most bytes : ℕ) → length_in most bytes ≡ false → room most bytes ≡ Err BadLength
 unfolding room
 room-refused most bytes h = rw h
 
@@ -186,7 +207,7 @@ module _ (bytes : List ℕ) where
       (λ d. formed)))
       (λ a. a)
 
-  pub followed : (last k n : ℕ) → successor bytes last k ≡ Next n → Followed bytes last k n
+  pub followed : (last k n : ℕ) → successor bytes last k ≡ Ok (Some n) → Followed bytes last k n
   followed last k n e = subst (Told bytes last k) e (successor-told last k)
 
 -- ---- the chain, record by record
@@ -197,11 +218,10 @@ module _ (file : List ℕ) (last : ℕ) where
       R (onward (successor (record_at file k) last k) f) (onward (successor (record_at file k) last k) g)
   onward-by R k f g z h = go (successor (record_at file k) last k) (successor-told (record_at file k) last k)
     where
-      go : (t : Following) → Told (record_at file k) last k t → R (onward t f) (onward t g)
-      go (Next n) p = h n p.above p.within
-      go End p = z
-      go BadKind p = z
-      go BadNext p = z
+      go : (t : Result (Option ℕ) FileRefusal) → Told (record_at file k) last k t → R (onward t f) (onward t g)
+      go (Ok (Some n)) p = h n p.above p.within
+      go (Ok None) p = z
+      go (Err refusal) p = z
 
   -- steps past the last record change nothing
   pub steps-enough : (k f g : ℕ) → k ≤ last → last < k + f → last < k + g → steps f file last k ≡ steps g file last k
@@ -238,22 +258,33 @@ rising-length (k ∷ ks) low last h r = omega (arith, rising-length ks k last r.
 -- ---- the judgement, record by record
 module _ (file : List ℕ) (last : ℕ) where
   pub judge-step :
-      (k : ℕ) (t : Following) → k ≤ last → successor (record_at file k) last k ≡ t →
+      (k : ℕ) (t : Result (Option ℕ) FileRefusal) → k ≤ last → successor (record_at file k) last k ≡ t →
       judge_along file last (chain_from file last k) ≡ judge_one t (judge_along file last (onward t (chain_from file last)))
   unfolding judge_along
   judge-step k t h e = rw (chain-step file last k h, e)
 
-  linked-cons : (k : ℕ) (ks : List ℕ) → judge_along file last (k ∷ ks) ≡ J.Linked → Formed (record_at file k) × (judge_along file last ks ≡ J.Linked)
+  -- by what follows record k
+  pub judged_next : (k n : ℕ) → k ≤ last → successor (record_at file k) last k ≡ Ok (Some n)
+      → judge_along file last (chain_from file last k) ≡ judge_along file last (chain_from file last n)
+  judged_next k n h e = judge-step k (Ok (Some n)) h e
+
+  pub judged_end : (k : ℕ) → k ≤ last → successor (record_at file k) last k ≡ Ok None → judge_along file last (chain_from file last k) ≡ Ok tt
+  unfolding judge_along
+  judged_end k h e = judge-step k (Ok None) h e
+
+  pub judged_refusal : (k : ℕ) (refusal : FileRefusal) → k ≤ last → successor (record_at file k) last k ≡ Err refusal → judge_along file last (chain_from file last k) ≡ Err refusal
+  judged_refusal k refusal h e = judge-step k (Err refusal) h e
+
+  linked-cons : (k : ℕ) (ks : List ℕ) → judge_along file last (k ∷ ks) ≡ Ok tt → Formed (record_at file k) × (judge_along file last ks ≡ Ok tt)
   unfolding judge_along
   linked-cons k ks = go (successor (record_at file k) last k) (successor-told (record_at file k) last k)
     where
-      go : (t : Following) → Told (record_at file k) last k t → judge_one t (judge_along file last ks) ≡ J.Linked → Formed (record_at file k) × (judge_along file last ks ≡ J.Linked)
-      go (Next n) p e = (p.formed, e)
-      go End p e = (p.0, e)
-      go BadKind p e = absurd (let z : ◌≡◌ {A = ℕ} 0 1 = cc in omega arith)
-      go BadNext p e = absurd (let z : ◌≡◌ {A = ℕ} 0 1 = cc in omega arith)
+      go : (t : Result (Option ℕ) FileRefusal) → Told (record_at file k) last k t → judge_one t (judge_along file last ks) ≡ Ok tt → Formed (record_at file k) × (judge_along file last ks ≡ Ok tt)
+      go (Ok (Some n)) p e = (p.formed, e)
+      go (Ok None) p e = (p.0, e)
+      go (Err refusal) p e = cc
 
-  linked-formed : (ks : List ℕ) → judge_along file last ks ≡ J.Linked → (k : ℕ) → Memᴰ k ks → Formed (record_at file k)
+  linked-formed : (ks : List ℕ) → judge_along file last ks ≡ Ok tt → (k : ℕ) → Memᴰ k ks → Formed (record_at file k)
   linked-formed [] e k m = absurd (Memᴰ.not-nil m)
   linked-formed (j ∷ ks) e k m =
       let p = linked-cons j ks e in
@@ -268,29 +299,25 @@ module _ (file : List ℕ) (last : ℕ) where
       (sym (judge-step k _ o.within refl) ∙ o.linked)
     where
       go :
-          (t : Following) → Told (record_at file k) last k t → chain_from file last k ≡ k ∷ onward t (chain_from file last) →
-          judge_one t (judge_along file last (onward t (chain_from file last))) ≡ J.Linked → Onward file last k (next (record_at file k))
-      go (Next n) p e l =
+          (t : Result (Option ℕ) FileRefusal) → Told (record_at file k) last k t → chain_from file last k ≡ k ∷ onward t (chain_from file last) →
+          judge_one t (judge_along file last (onward t (chain_from file last))) ≡ Ok tt → Onward file last k (next (record_at file k))
+      go (Ok (Some n)) p e l =
           rw (← p.named)
           (record {
             chain-is = rw (ne_eqb n 0 (omega (arith, p.above))) e;
             above = λ _. p.above;
             on_chain = λ _. record { within = p.within; linked = l };
           })
-      go End p e l = rw p.1 (record { chain-is = e; above = λ z. absurd (z refl); on_chain = λ z. absurd (z refl) })
-      go BadKind p e l = absurd (let z : ◌≡◌ {A = ℕ} 0 1 = cc in omega arith)
-      go BadNext p e l = absurd (let z : ◌≡◌ {A = ℕ} 0 1 = cc in omega arith)
+      go (Ok None) p e l = rw p.1 (record { chain-is = e; above = λ z. absurd (z refl); on_chain = λ z. absurd (z refl) })
+      go (Err refusal) p e l = cc
 
-output-linked : (j : Judged) (enough : Bool) → judge_output j enough ≡ J.Linked → (j ≡ J.Linked) × (enough ≡ true)
-output-linked J.Linked true e = (refl, refl)
-output-linked J.Linked false e = absurd (let z : ◌≡◌ {A = ℕ} 0 1 = cc in omega arith)
-output-linked J.BadLength enough e = absurd (let z : ◌≡◌ {A = ℕ} 0 1 = cc in omega arith)
-output-linked J.BadKind enough e = absurd (let z : ◌≡◌ {A = ℕ} 0 1 = cc in omega arith)
-output-linked J.BadNext enough e = absurd (let z : ◌≡◌ {A = ℕ} 0 1 = cc in omega arith)
-output-linked J.ShortOutput enough e = absurd (let z : ◌≡◌ {A = ℕ} 0 1 = cc in omega arith)
+output-linked : (judged : Result (Unit {0}) FileRefusal) (enough : Bool) → judge_output judged enough ≡ Ok tt → (judged ≡ Ok tt) × (enough ≡ true)
+output-linked (Ok linked) true e = (refl, refl)
+output-linked (Ok linked) false e = cc
+output-linked (Err refusal) enough e = cc
 
 module _ (most : ℕ) (file : List ℕ) (output : ℕ) where
-  linked-counted : Counted most (length file) → judge_output (judge_along file (record_count file) (chain file)) (leb (least_output (record_count file)) output) ≡ J.Linked
+  linked-counted : Counted most (length file) → judge_output (judge_along file (record_count file) (chain file)) (leb (least_output (record_count file)) output) ≡ Ok tt
       → LinkedFile most file output
   linked-counted c h =
       let o = output-linked (judge_along file (record_count file) (chain file)) (leb (least_output (record_count file)) output) h in
@@ -304,14 +331,14 @@ module _ (most : ℕ) (file : List ℕ) (output : ℕ) where
         enough = leb-true _ _ o.1;
       }
 
-  pub linked-file : judge most file output ≡ J.Linked → LinkedFile most file output
+  pub linked-file : judge most file output ≡ Ok tt → LinkedFile most file output
   unfolding judge
   linked-file =
       cases
-      (λ j. j ≡ J.Linked → LinkedFile most file output)
+      (λ judged. judged ≡ Ok tt → LinkedFile most file output)
       (length_in most (length file))
       (λ e h. linked-counted (length-counted most (length file) e) h)
-      (λ e h. absurd (let z : ◌≡◌ {A = ℕ} 0 1 = cc in omega arith))
+      (λ e h. cc)
 
   -- by question 10 first
   pub judge-counted : length_in most (length file) ≡ true
@@ -319,14 +346,14 @@ module _ (most : ℕ) (file : List ℕ) (output : ℕ) where
   unfolding judge
   judge-counted h = rw h
 
-  pub judge-refused : length_in most (length file) ≡ false → judge most file output ≡ J.BadLength
+  pub judge-refused : length_in most (length file) ≡ false → judge most file output ≡ Err BadLength
   unfolding judge
   judge-refused h = rw h
 
 -- ---- limits
 -- up to 1,365 records question 13 asks for 65,536 bytes
 pub judge-short : (most : ℕ) (file : List ℕ) (output : ℕ) → record_count file ≤ most_short
-    → judge most file output ≡ cond (length_in most (length file)) (judge_output (judge_along file (record_count file) (chain file)) (leb 65536 output)) J.BadLength
+    → judge most file output ≡ cond (length_in most (length file)) (judge_output (judge_along file (record_count file) (chain file)) (leb 65536 output)) (Err BadLength)
 unfolding judge
 judge-short most file output h = rw (least-short (record_count file) h)
 
@@ -346,13 +373,13 @@ judge-enough most file a b h = go (length_in most (length file)) refl
         rw (judge-counted most file a e, judge-counted most file b e, le-leb _ _ i.0, le-leb _ _ i.1)
     go false e = rw (judge-refused most file a e, judge-refused most file b e)
 
-pub judge-too-long : (most : ℕ) (file : List ℕ) (output : ℕ) → most < record_count file → judge most file output ≡ J.BadLength
+pub judge-too-long : (most : ℕ) (file : List ℕ) (output : ℕ) → most < record_count file → judge most file output ≡ Err BadLength
 judge-too-long most file output h = judge-refused most file output (too_long most (length file) h)
 
 -- what holds of every file beside itself, and of two files that question 10 turns down, holds of a file's beginning beside the file
 pub beginning-by :
     (R : List ℕ → List ℕ → Type 0) (most : ℕ) (file : List ℕ) → ((f : List ℕ) → R f f) →
-    ((f g : List ℕ) → ((output : ℕ) → judge most f output ≡ J.BadLength) → ((output : ℕ) → judge most g output ≡ J.BadLength) → R f g) →
+    ((f g : List ℕ) → ((output : ℕ) → judge most f output ≡ Err BadLength) → ((output : ℕ) → judge most g output ≡ Err BadLength) → R f g) →
     R (beginning most file) file
 beginning-by R most file same refused = go (leb (record_count file) most) refl
   where

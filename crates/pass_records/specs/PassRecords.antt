@@ -1,10 +1,17 @@
 -- The records of a pass file, 48 bytes each and numbered from 1, the chain that links them, and questions 10 to 13. What lies past a record's end counts as 0.
-use Rattle.std.specs.Prelude.{ℕ, zero, suc, ◌*◌, ◌-◌, ◌/◌, ◌%◌, Bool, ◌&&◌, cond, List, [], ◌∷◌, eqb, ltb, leb, length, get_or, take, drop}
+use Rattle.std.specs.Prelude.{ℕ, zero, suc, ◌*◌, ◌-◌, ◌/◌, ◌%◌, Bool, ◌&&◌, cond, List, [], ◌∷◌, Option, Some, None, Result, Ok, Err, eqb, ltb, leb, length, get_or, take, drop}
 use Rattle.le_bytes.specs.LeBytes.{le}
-use Rattle.pass_records.specs.declared.Following.{Following}
-use Rattle.pass_records.specs.declared.Following.TheVariants.{Next, End, BadKind, BadNext}
-use Rattle.pass_records.specs.declared.Judged.{Judged}
-use Rattle.pass_records.specs.declared.Judged.TheVariants as J
+use Rattle.pass_records.specs.declared.FileRefusal.{FileRefusal}
+use Rattle.pass_records.specs.declared.FileRefusal.TheVariants.{BadLength, BadKind, BadNext, ShortOutput}
+use Rattle.pass_records.specs.declared.Kind.{Kind}
+use Rattle.pass_records.specs.declared.Kind.TheVariants.{Packet, Report, Timeout}
+
+-- the number of the question that a file fails
+abbrev pub question : FileRefusal → ℕ
+question BadLength = 10
+question BadKind = 11
+question BadNext = 12
+question ShortOutput = 13
 
 abbrev pub record_bytes : ℕ
 record_bytes = 48
@@ -22,6 +29,10 @@ report = 2
 
 abbrev pub timeout : ℕ
 timeout = 3
+
+-- what a byte stands for
+abbrev pub kind_of : ℕ → Result Kind FileRefusal
+kind_of n = cond (eqb n packet) (Ok Packet) (cond (eqb n report) (Ok Report) (cond (eqb n timeout) (Ok Timeout) (Err BadKind)))
 
 -- how many whole records so many bytes hold
 abbrev pub whole_records : ℕ → ℕ
@@ -69,18 +80,20 @@ probe_bits bytes = le 8 bytes 40
 unfoldable pub well_formed : List ℕ → Bool
 well_formed bytes = cond (eqb (kind bytes) report) (leb (flag bytes) 1) (leb packet (kind bytes) && leb (kind bytes) timeout)
 
--- what follows a record, which is record k of `last`: question 11, then 12, the number that it names is 0, or above k and not past the last
-unfoldable pub successor : List ℕ → ℕ → ℕ → Following
+abbrev pub judge_kind : List ℕ → Result (Unit {0}) FileRefusal
+judge_kind bytes = cond (well_formed bytes) (Ok tt) (Err BadKind)
+
+-- the number of the record that follows record k of `last`, if one does: question 11, then 12, the number that it names is 0, or above k and not past the last
+unfoldable pub successor : List ℕ → ℕ → ℕ → Result (Option ℕ) FileRefusal
 successor bytes last k =
     cond (well_formed bytes)
-    (cond (eqb (next bytes) 0) End (cond (ltb k (next bytes) && leb (next bytes) last) (Next (next bytes)) BadNext))
-    BadKind
+    (cond (eqb (next bytes) 0) (Ok None) (cond (ltb k (next bytes) && leb (next bytes) last) (Ok (Some (next bytes))) (Err BadNext)))
+    (Err BadKind)
 
-abbrev pub onward : Following → (ℕ → List ℕ) → List ℕ
-onward (Next n) rest = rest n
-onward End rest = []
-onward BadKind rest = []
-onward BadNext rest = []
+abbrev pub onward : Result (Option ℕ) FileRefusal → (ℕ → List ℕ) → List ℕ
+onward (Ok (Some n)) rest = rest n
+onward (Ok None) rest = []
+onward (Err refusal) rest = []
 
 -- the numbers of the records along the chain from record k on, in so many steps
 unfoldable pub steps : ℕ → List ℕ → ℕ → ℕ → List ℕ
@@ -96,20 +109,22 @@ abbrev pub chain : List ℕ → List ℕ
 chain file = chain_from file (record_count file) 1
 
 -- ---- questions 11 and 12 along a chain: the first no
-abbrev pub judge_one : Following → Judged → Judged
-judge_one (Next n) rest = rest
-judge_one End rest = rest
-judge_one BadKind rest = J.BadKind
-judge_one BadNext rest = J.BadNext
+abbrev pub judge_one : Result (Option ℕ) FileRefusal → Result (Unit {0}) FileRefusal → Result (Unit {0}) FileRefusal
+judge_one (Ok next) rest = rest
+judge_one (Err refusal) rest = Err refusal
 
-unfoldable pub judge_along : List ℕ → ℕ → List ℕ → Judged
-judge_along file last [] = J.Linked
+unfoldable pub judge_along : List ℕ → ℕ → List ℕ → Result (Unit {0}) FileRefusal
+judge_along file last [] = Ok tt
 judge_along file last (k ∷ ks) = judge_one (successor (record_at file k) last k) (judge_along file last ks)
 
 -- ---- questions 10 and 13
 -- question 10: so many bytes are 48 times 1 to `most`
 unfoldable pub length_in : ℕ → ℕ → Bool
 length_in most bytes = (eqb (bytes % record_bytes) 0 && ltb 0 (whole_records bytes)) && leb (whole_records bytes) most
+
+-- how many records a file of so many bytes has
+abbrev pub count : ℕ → ℕ → Result ℕ FileRefusal
+count most bytes = cond (length_in most bytes) (Ok (whole_records bytes)) (Err BadLength)
 
 -- question 13: the least output for a file of so many records, linked or not
 abbrev pub most_short : ℕ
@@ -124,33 +139,27 @@ output_per_record = 48
 unfoldable pub least_output : ℕ → ℕ
 least_output records = cond (leb records most_short) short_file_output (records * output_per_record)
 
--- the least output for a file of so many bytes, and 0 where question 10 turns it down
-unfoldable pub room : ℕ → ℕ → ℕ
-room most bytes = cond (length_in most bytes) (least_output (whole_records bytes)) 0
+-- the least output for a file of so many bytes
+unfoldable pub room : ℕ → ℕ → Result ℕ FileRefusal
+room most bytes = cond (length_in most bytes) (Ok (least_output (whole_records bytes))) (Err BadLength)
 
 -- ---- all four, in their order
-abbrev pub judge_output : Judged → Bool → Judged
-judge_output J.Linked enough = cond enough J.Linked J.ShortOutput
-judge_output J.BadLength enough = J.BadLength
-judge_output J.BadKind enough = J.BadKind
-judge_output J.BadNext enough = J.BadNext
-judge_output J.ShortOutput enough = J.ShortOutput
+abbrev pub judge_output : Result (Unit {0}) FileRefusal → Bool → Result (Unit {0}) FileRefusal
+judge_output (Ok linked) enough = cond enough (Ok tt) (Err ShortOutput)
+judge_output (Err refusal) enough = Err refusal
 
 -- of a file that may have `most` records, and an output of so many bytes
-unfoldable pub judge : ℕ → List ℕ → ℕ → Judged
+unfoldable pub judge : ℕ → List ℕ → ℕ → Result (Unit {0}) FileRefusal
 judge most file output =
     cond (length_in most (length file))
     (judge_output (judge_along file (record_count file) (chain file)) (leb (least_output (record_count file)) output))
-    J.BadLength
+    (Err BadLength)
 
 -- the beginning of a file, one record more than `most`: as much as a program has to read to judge it
 abbrev pub beginning : ℕ → List ℕ → List ℕ
 beginning most file = take (suc most * record_bytes) file
 
--- the number of the question that a file fails
-abbrev pub number : Judged → ℕ
-number J.Linked = 0
-number J.BadLength = 10
-number J.BadKind = 11
-number J.BadNext = 12
-number J.ShortOutput = 13
+-- 0, or the number of the question that a file fails
+abbrev pub number : Result (Unit {0}) FileRefusal → ℕ
+number (Ok linked) = 0
+number (Err refusal) = question refusal

@@ -1,7 +1,7 @@
 -- The example of document 01, three records of which the second is skipped, and the limits of questions 10 and 13, computed from the definitions.
-use Rattle.std.specs.Prelude.{ℕ, zero, suc, ◌+◌, ◌*◌, ◌≡◌, refl, true, false, List, [], ◌∷◌, ◌++◌}
+use Rattle.std.specs.Prelude.{ℕ, zero, suc, ◌+◌, ◌*◌, ◌≡◌, refl, true, false, List, [], ◌∷◌, ◌++◌, Ok, Err}
 use Rattle.le_bytes.specs.LeBytes.{le}
-use Rattle.pass_records.specs.declared.Judged.TheVariants as J
+use Rattle.pass_records.specs.declared.FileRefusal.TheVariants.{BadLength}
 use Rattle.pass_records.specs.PassRecords.{
   most_records,
   record_count,
@@ -38,7 +38,7 @@ example = first ++ zeros 48 ++ third
 pub three-records : record_count example ≡ 3
 three-records = refl
 
-pub example-linked : judge most_records example 65536 ≡ J.Linked
+pub example-linked : judge most_records example 65536 ≡ Ok tt
 unfolding judge length_in least_output judge_along chain_from steps successor record_at well_formed le
 example-linked = refl
 
@@ -65,6 +65,6 @@ unfolding length_in
 lengths-taken = refl
 
 pub rooms : room most_records 47 ∷ room most_records 48 ∷ room most_records (1365 * 48) ∷ room most_records (1366 * 48) ∷ room most_records (65535 * 48) ∷ room most_records (65536 * 48) ∷ []
-    ≡ 0 ∷ 65536 ∷ 65536 ∷ 65568 ∷ 3145680 ∷ 0 ∷ []
+    ≡ Err BadLength ∷ Ok 65536 ∷ Ok 65536 ∷ Ok 65568 ∷ Ok 3145680 ∷ Err BadLength ∷ []
 unfolding room length_in least_output
 rooms = refl

@@ -1,6 +1,7 @@
 -- What the program prints for a file: its listing, or the number of the question that turned it down alone on a line.
-use Rattle.std.specs.Prelude.{ℕ, zero, suc, List}
-use Rattle.pass_records.specs.PassRecords.{judge, number}
+use Rattle.std.specs.Prelude.{ℕ, List, Result, Ok, Err}
+use Rattle.pass_records.specs.declared.FileRefusal.{FileRefusal}
+use Rattle.pass_records.specs.PassRecords.{judge, question}
 use Rattle.listing_line.specs.ListingLine.{number_line}
 use Rattle.pass_file.specs.PassFile.{listing}
 
@@ -12,9 +13,9 @@ most_records = 1365
 abbrev pub output_bytes : ℕ
 output_bytes = 65536
 
-abbrev pub printed_by : ℕ → List ℕ → List ℕ
-printed_by zero text = text
-printed_by (suc n) text = number_line (suc n)
+abbrev pub printed_by : Result (Unit {0}) FileRefusal → List ℕ → List ℕ
+printed_by (Ok linked) text = text
+printed_by (Err refusal) text = number_line (question refusal)
 
 unfoldable pub printed : List ℕ → List ℕ
-printed file = printed_by (number (judge most_records file output_bytes)) (listing file)
+printed file = printed_by (judge most_records file output_bytes) (listing file)

@@ -21,12 +21,10 @@ fn print(file: &[u8], out: &mut [u8]) -> usize
     ensures wrote { Wrote out.old 0 (printed file.now) out.new result }
     ensures upper_bound { result ≤ output_bytes }
 {
-    let listed = pass_file::list(file, out, MOST_RECORDS);
-    let number = listed.number();
-    if number != 0 {
-        return listing_line::put_number(out, 0, number);
+    match pass_file::list(file, out, MOST_RECORDS) {
+        Ok(bytes) => bytes,
+        Err(refusal) => listing_line::put_number(out, 0, refusal.into()),
     }
-    listed.bytes()
 }
 
 // A longer file is read up to its beginning. A read that fails is no end, and then nothing is printed. What failed is said on standard error; where a write

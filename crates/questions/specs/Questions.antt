@@ -1,12 +1,12 @@
 -- Document 01's questions 2 to 9: what each asks, and its number. Instants, durations and windows are ns.
-use Rattle.std.specs.Prelude.{ℕ, ◌%◌, ◌^◌, Bool, true, not, ◌&&◌, cond, List, [], ◌∷◌, leb, eqb, length, Option, Some, None}
+use Rattle.std.specs.Prelude.{ℕ, ◌%◌, ◌^◌, Bool, true, not, ◌&&◌, cond, List, [], ◌∷◌, leb, eqb, length, Option, Some, None, Result, Ok, Err}
 use Rattle.bandwidth.specs.Bandwidth.{less, within, zero, min_estimate, max_estimate, most_rate, most_bytes}
 use Rattle.bandwidth.specs.declared.Bitrate.{Bitrate}
 use Rattle.bandwidth.specs.declared.DataSize.{DataSize}
 use Rattle.receive_order.specs.ReceiveOrder.{most_packets, receive_order, entries}
 use Rattle.questions.specs.declared.Refusal.{Refusal}
-use Rattle.questions.specs.declared.OptionRefusal.{OptionRefusal}
-use Rattle.questions.specs.declared.OptionRefusal.TheVariants as Asked
+use Rattle.receive_order.specs.declared.Keys.{Keys}
+use Rattle.questions.specs.declared.Report as Lent
 
 -- ---- questions and refusals
 -- a question's number, and whether its answer is yes
@@ -33,9 +33,14 @@ number Refusal.BadMoment = 7
 number Refusal.BadProbe = 8
 number Refusal.TooManyBytes = 9
 
-abbrev pub number_or0 : OptionRefusal → ℕ
-number_or0 Asked.None = 0
-number_or0 (Asked.Some q) = number q
+-- the number of the question that turned a call down, or 0
+abbrev pub number_or0 : {T : Type 0} → Result T Refusal → ℕ
+number_or0 (Ok x) = 0
+number_or0 (Err q) = number q
+
+-- what a question says that is answered with yes or no
+unfoldable pub answer : Bool → Refusal → Result (Unit {0}) Refusal
+answer b q = cond b (Ok tt) (Err q)
 
 -- ---- opening
 -- 2: is the start rate from 40,000 to 10^10?
@@ -72,6 +77,13 @@ pub record Report : Type 0 where
 abbrev pub report-of : List ℕ → List ℕ → List ℕ → List ℕ → List ℕ → Option Bitrate → ℕ → Report
 report-of sequences sizes sends remotes receives probe now =
     record { sequences = sequences; sizes = sizes; sends = sends; remotes = remotes; receives = receives; probe = probe; now = now }
+
+-- a report as it is lent, and what its packets are put in order by
+abbrev pub report : Lent.Report → Report
+report r = report-of r.sequences.now r.sizes.now r.sends.now r.remotes.now r.receives.now r.probe r.moment
+
+abbrev pub keys : Lent.Report → Keys
+keys r = record { remotes = r.remotes; sends = r.sends; sequences = r.sequences }
 
 -- a list in the order of receipt: by remote, send and sequence, equal keys in the order given
 abbrev pub in_order : Report → List ℕ → List ℕ

@@ -1,13 +1,14 @@
 // Document 01's questions 2 to 9, with their numbers. Question 1 is of a link's state (crates/link_state).
 #![tactic(auto)]
 
-ghost use Rattle.std.specs.Prelude.{◌≡◌};
+ghost use Rattle.std.specs.Prelude.{◌≡◌, ◌<◌, ◌^◌, ℕ, Bool};
 ghost use Rattle.questions.specs.Questions as Questions;
 
 use bandwidth::{Bitrate, DataSize};
+use receive_order::Keys;
 
 // The question that turned a call down.
-#[derive(Clone, Copy)]
+#[derive(Clone, Copy, Debug, PartialEq, Eq)]
 pub enum Refusal {
     OutOfRange,
     BadStartBitrate,
@@ -20,27 +21,12 @@ pub enum Refusal {
     TooManyBytes,
 }
 
-// The first question that is answered with no, if one is.
-#[derive(Clone, Copy)]
-pub enum OptionRefusal {
-    None,
-    Some(Refusal),
-}
+// A question's number.
+impl From<Refusal> for u64 {
+    ghost from_gives = { λ refusal n. n ≡ Questions.number refusal };
 
-// The last instant, in ns.
-const MOST_INSTANT: u64 = 1_000_000_000_000_000_000;
-
-const MS: u64 = 1_000_000;
-
-// The longest window, in ns.
-const MOST_WINDOW: u64 = 10_000_000_000;
-
-impl Refusal {
-    // Its number.
-    pub fn number(self) -> u64
-        ensures { result ≡ Questions.number self }
-    {
-        match self {
+    fn from(refusal: Refusal) -> u64 {
+        match refusal {
             Refusal::OutOfRange => 1,
             Refusal::BadStartBitrate => 2,
             Refusal::BadWindow => 3,
@@ -54,16 +40,40 @@ impl Refusal {
     }
 }
 
-impl OptionRefusal {
-    // Its number, or 0.
-    pub fn number(self) -> u64
-        ensures { result ≡ Questions.number_or0 self }
-    {
-        match self {
-            OptionRefusal::None => 0,
-            OptionRefusal::Some(refusal) => refusal.number(),
-        }
-    }
+// The number of the question that turned a call down, or 0.
+pub fn number<T: Drop>(answer: Result<T, Refusal>) -> u64
+    ensures { result ≡ Questions.number_or0 answer }
+{
+    answer.err().map_or(0, u64::from)
+}
+
+// A report: packet i has its sequence, size, send, remote and receive instant at place i of five lists; a probe's result, and the moment.
+#[derive(Clone, Copy)]
+pub struct Report<'a> {
+    pub sequences: &'a [u64],
+    pub sizes: &'a [u64],
+    pub sends: &'a [u64],
+    pub remotes: &'a [u64],
+    pub receives: &'a [u64],
+    pub probe: Option<Bitrate>,
+    pub moment: u64,
+}
+
+// The last instant, in ns.
+const MOST_INSTANT: u64 = 1_000_000_000_000_000_000;
+
+const MS: u64 = 1_000_000;
+
+// The longest window, in ns.
+const MOST_WINDOW: u64 = 10_000_000_000;
+
+const LEAST_SIZE: u64 = 1;
+
+// What a question says that is answered with yes or no.
+fn ask(yes: bool, refusal: Refusal) -> Result<(), Refusal>
+    ensures { result ≡ Questions.answer yes refusal }
+{
+    if yes { Ok(()) } else { Err(refusal) }
 }
 
 // ---- opening: 2 and 3
@@ -79,66 +89,39 @@ pub fn window_in(window: u64) -> bool
     (window % MS == 0) & (MS <= window) & (window <= MOST_WINDOW)
 }
 
-pub fn opening(start_bitrate: Bitrate, initial_window: u64, window: u64) -> OptionRefusal
+pub fn opening(start_bitrate: Bitrate, initial_window: u64, window: u64) -> Result<(), Refusal>
     ensures { Questions.number_or0 result ≡ Questions.first_no (Questions.of_opening start_bitrate initial_window window) }
 {
-    if !start_in(start_bitrate) {
-        return OptionRefusal::Some(Refusal::BadStartBitrate);
-    }
-    if !(window_in(initial_window) & window_in(window)) {
-        return OptionRefusal::Some(Refusal::BadWindow);
-    }
-    OptionRefusal::None
+    ask(start_in(start_bitrate), Refusal::BadStartBitrate)?;
+    ask(
+        window_in(initial_window) & window_in(window),
+        Refusal::BadWindow,
+    )
 }
 
 // ---- report: 4 to 8, and what 9 asks of a byte sum
-pub fn lists_in(
-    sequences: &[u64],
-    sizes: &[u64],
-    sends: &[u64],
-    remotes: &[u64],
-    receives: &[u64],
-) -> bool
-    ensures { result ≡ Questions.lists_in sequences.now sizes.now sends.now remotes.now receives.now }
-{
-    let n = sequences.len();
-    (sizes.len() == n)
-        & (sends.len() == n)
-        & (remotes.len() == n)
-        & (receives.len() == n)
-        & (n <= receive_order::MOST_PACKETS)
-}
-
-fn all_at_most(xs: &[u64], most: u64) -> bool
-    ensures { result ≡ Questions.all_at_most most xs.now }
+// Whether every number passes a test. All are tested, which LLVM does by vectors.
+fn every<F: Fn(u64) -> bool>(xs: &[u64], test: F) -> bool
+    requires { F.IsAlwaysCallable test }
+    ensures { (p : ℕ → Bool) → ((x : ℕ) (r : Bool) → F.post test x r → r ≡ p x) → result ≡ Questions.every p xs.now }
 {
     let mut yes = true;
-    let mut i = 0;
-    while i < xs.len() {
-        yes = yes & (xs[i] <= most);
-        i += 1;
+    for x in xs {
+        yes = yes & test(*x);
     }
     yes
 }
 
-fn all_at_least(xs: &[u64], least: u64) -> bool
-    ensures { result ≡ Questions.all_at_least least xs.now }
+fn instants_in(xs: &[u64]) -> bool
+    ensures { result ≡ Questions.all_at_most Questions.most_instant xs.now }
 {
-    let mut yes = true;
-    let mut i = 0;
-    while i < xs.len() {
-        yes = yes & (least <= xs[i]);
-        i += 1;
-    }
-    yes
+    every(xs, |x| x <= MOST_INSTANT)
 }
 
-fn instants_in(sends: &[u64], remotes: &[u64], receives: &[u64]) -> bool
-    ensures { result ≡ Questions.instants_in sends.now remotes.now receives.now }
+fn sizes_in(sizes: &[u64]) -> bool
+    ensures { result ≡ Questions.sizes_in sizes.now }
 {
-    all_at_most(sends, MOST_INSTANT)
-        & all_at_most(remotes, MOST_INSTANT)
-        & all_at_most(receives, MOST_INSTANT)
+    every(sizes, |size| LEAST_SIZE <= size)
 }
 
 fn moment_in(now: u64) -> bool
@@ -156,47 +139,52 @@ fn probe_in(probe: Option<Bitrate>) -> bool
     }
 }
 
-pub fn report(
-    sequences: &[u64],
-    sizes: &[u64],
-    sends: &[u64],
-    remotes: &[u64],
-    receives: &[u64],
-    probe: Option<Bitrate>,
-    moment: u64,
-) -> OptionRefusal
-    ensures { Questions.number_or0 result ≡ Questions.first_no (Questions.of_report (Questions.report-of sequences.now sizes.now sends.now remotes.now receives.now probe moment)) }
-{
-    if !lists_in(sequences, sizes, sends, remotes, receives) {
-        return OptionRefusal::Some(Refusal::BadLists);
+impl<'a> Report<'a> {
+    // What its packets are put in order by.
+    pub fn keys(self) -> Keys<'a>
+        ensures { result ≡ Questions.keys self.entry }
+    {
+        Keys {
+            remotes: self.remotes,
+            sends: self.sends,
+            sequences: self.sequences,
+        }
     }
-    if !instants_in(sends, remotes, receives) {
-        return OptionRefusal::Some(Refusal::BadInstant);
+
+    pub fn lists_in(self) -> bool
+        ensures { result ≡ Questions.lists_in self.entry.sequences.now self.entry.sizes.now self.entry.sends.now self.entry.remotes.now self.entry.receives.now }
+    {
+        let n = self.sequences.len();
+        (self.sizes.len() == n)
+            & (self.sends.len() == n)
+            & (self.remotes.len() == n)
+            & (self.receives.len() == n)
+            & (n <= receive_order::MOST_PACKETS)
     }
-    if !all_at_least(sizes, 1) {
-        return OptionRefusal::Some(Refusal::BadSize);
+
+    pub fn judge(self) -> Result<(), Refusal>
+        ensures { Questions.number_or0 result ≡ Questions.first_no (Questions.of_report (Questions.report self.entry)) }
+    {
+        ask(self.lists_in(), Refusal::BadLists)?;
+        ask(
+            instants_in(self.sends) & instants_in(self.remotes) & instants_in(self.receives),
+            Refusal::BadInstant,
+        )?;
+        ask(sizes_in(self.sizes), Refusal::BadSize)?;
+        ask(moment_in(self.moment), Refusal::BadMoment)?;
+        ask(probe_in(self.probe), Refusal::BadProbe)
     }
-    if !moment_in(moment) {
-        return OptionRefusal::Some(Refusal::BadMoment);
-    }
-    if !probe_in(probe) {
-        return OptionRefusal::Some(Refusal::BadProbe);
-    }
-    OptionRefusal::None
 }
 
 pub fn bytes_in(sum: DataSize) -> bool
     ensures { result ≡ Questions.bytes_in sum }
 {
-    !DataSize::MOST.lt(sum)
+    !(DataSize::MOST < sum)
 }
 
 // ---- timeout: 7
-pub fn timeout(now: u64) -> OptionRefusal
+pub fn timeout(now: u64) -> Result<(), Refusal>
     ensures { Questions.number_or0 result ≡ Questions.first_no (Questions.of_timeout now) }
 {
-    if !moment_in(now) {
-        return OptionRefusal::Some(Refusal::BadMoment);
-    }
-    OptionRefusal::None
+    ask(moment_in(now), Refusal::BadMoment)
 }

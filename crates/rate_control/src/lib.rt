@@ -182,10 +182,10 @@ impl RateControl {
             return true; // no change yet
         };
         let rtt = self.last_rtt.unwrap_or(DEFAULT_BACKOFF_TIME);
-        if reduction_interval(rtt) <= time::saturating_duration_since(now, last_change) {
+        if reduction_interval(rtt) <= now.saturating_sub(last_change) {
             return true;
         }
-        observed_bitrate.lt(self.estimated_bitrate.mul(0.5))
+        observed_bitrate < self.estimated_bitrate * 0.5
     }
 
     fn is_near_convergence(self) -> bool
@@ -249,7 +249,7 @@ impl RateControl {
             return self.with_estimate(estimated_bitrate, now);
         }
         let last = self.last_estimate_update.unwrap_or(now);
-        let since = time::saturating_duration_since(now, last);
+        let since = now.saturating_sub(last);
         let next = self.with_average(reset_above(self.averaged_observed_bitrate, observed));
         let max = observed * Self::MAX_ESTIMATE_RATIO;
         let new_estimate = float::min(float::min(max, next.raised(since)), increase_limit);
@@ -259,10 +259,10 @@ impl RateControl {
     fn decrease(self, observed_bitrate: Bitrate, now: u64) -> Self
         ensures { result ≡ Rate.decrease self observed_bitrate now }
     {
-        let new_estimate = observed_bitrate.mul(Self::BETA);
+        let new_estimate = observed_bitrate * Self::BETA;
         let estimated_bitrate = self.estimated_bitrate;
         let held = self.with_state(State::Hold);
-        if estimated_bitrate.lt(new_estimate) {
+        if estimated_bitrate < new_estimate {
             return held.update_estimate(estimated_bitrate, now);
         }
         held.update_estimate(new_estimate, now)

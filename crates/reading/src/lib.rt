@@ -13,6 +13,7 @@ pub fn read_full<R: Read>(input: &mut R, bytes: &mut [u8]) -> io::Result<usize>
     ensures bytes { IfOk result (λ n. Consumes (R.remaining input.old) (R.remaining input.new) (take n bytes.new)) }
     ensures end { IfOk result (λ n. n < length bytes.new → IsAtEnd (R.remaining input.new)) }
 {
+    // A loop, since std's read_exact does not say how many bytes came before the input's end.
     let mut done = 0;
     while done < bytes.len() {
         let n = input.read(&mut bytes[done..])?;

@@ -50,20 +50,16 @@ impl Modules {
 
     // With one case more, which our side answers so.
     fn counted(self, i: Case, answers: [u64; 6]) -> Self {
-        let mut counts = self.counts;
-        let all = self.all;
         let agrees = i.agrees(answers);
         let m = module(i.op);
-        counts[m] = counts[m].counted(0, agrees);
-        Self {
-            counts,
-            all: all.counted(0, agrees),
-        }
+        let mut next = self;
+        next.counts[m] = next.counts[m].counted(0, agrees);
+        next.all = next.all.counted(0, agrees);
+        next
     }
 
     fn print(self, rt: &impl Print) -> io::Result<()> {
         let c = self.counts;
-        let all = self.all;
         c[0].print(rt, b"time")?;
         c[1].print(rt, b"average")?;
         c[2].print(rt, b"acked_bitrate_estimator")?;
@@ -72,7 +68,7 @@ impl Modules {
         c[5].print(rt, b"rate_control")?;
         c[6].print(rt, b"control")?;
         c[7].print(rt, b"bandwidth")?;
-        all.print_first(rt)
+        self.all.print_first(rt)
     }
 }
 
@@ -117,31 +113,17 @@ impl States {
 
     // Our answers to a case, from the states after it.
     fn words(self, i: Case) -> [u64; 6] {
-        if i.op < 20 {
-            return quantities::time_words(i);
+        match i.op {
+            0..20 => quantities::time_words(i),
+            20..30 => quantities::average_words(self.average, i),
+            30..40 => quantities::acked_words(self.acked),
+            40..50 => quantities::group_words(self.groups),
+            50..60 => delay::trend_words(self.trendline),
+            60..70 => delay::rate_words(self.rate),
+            71 => delay::waiting_words(self.waiting),
+            70..80 => delay::control_words(self.control),
+            _ => quantities::bandwidth_words(i),
         }
-        if i.op < 30 {
-            return quantities::average_words(self.average, i);
-        }
-        if i.op < 40 {
-            return quantities::acked_words(self.acked);
-        }
-        if i.op < 50 {
-            return quantities::group_words(self.groups);
-        }
-        if i.op < 60 {
-            return delay::trend_words(self.trendline);
-        }
-        if i.op < 70 {
-            return delay::rate_words(self.rate);
-        }
-        if i.op == 71 {
-            return delay::waiting_words(self.waiting);
-        }
-        if i.op < 80 {
-            return delay::control_words(self.control);
-        }
-        quantities::bandwidth_words(i)
     }
 }
 

@@ -1,5 +1,5 @@
 // The numbers that stand for enums and floats in a case.
-use bandwidth::{BandwidthUsage, Bitrate};
+use bandwidth::Bitrate;
 use time::TimeDelta;
 
 pub fn rate(b: u64) -> Bitrate {
@@ -10,48 +10,34 @@ pub fn rate_bits(b: Bitrate) -> u64 {
     float_bits::to_bits(b.as_f64())
 }
 
-pub fn option_rate(tag: u64, b: u64) -> Option<Bitrate> {
-    if tag == 1 {
-        return Some(rate(b));
-    }
-    None
+// A value that is there where the tag is 1.
+pub fn option<T: Copy>(tag: u64, value: T) -> Option<T> {
+    if tag == 1 { Some(value) } else { None }
 }
 
-pub fn usage(u: BandwidthUsage) -> u64 {
-    match u {
-        BandwidthUsage::Overuse => 0,
-        BandwidthUsage::Normal => 1,
-        BandwidthUsage::Underuse => 2,
+// The bits of a float that may be missing, and 0 without it.
+pub fn option_bits(x: Option<f64>) -> u64 {
+    match x {
+        None => 0,
+        Some(v) => float_bits::to_bits(v),
     }
 }
 
 pub fn delta(tag: u64, n: u64) -> TimeDelta {
-    if tag == 0 {
-        return TimeDelta::NegativeInfinity;
-    }
-    if tag == 1 {
-        return TimeDelta::Negative(n);
-    }
-    if tag == 2 {
-        return TimeDelta::Positive(n);
-    }
-    TimeDelta::PositiveInfinity
-}
-
-pub fn delta_tag(d: TimeDelta) -> u64 {
-    match d {
-        TimeDelta::NegativeInfinity => 0,
-        TimeDelta::Negative(_) => 1,
-        TimeDelta::Positive(_) => 2,
-        TimeDelta::PositiveInfinity => 3,
+    match tag {
+        0 => TimeDelta::NegativeInfinity,
+        1 => TimeDelta::Negative(n),
+        2 => TimeDelta::Positive(n),
+        _ => TimeDelta::PositiveInfinity,
     }
 }
 
-pub fn delta_ns(d: TimeDelta) -> u64 {
+// A length's tag, and its ns.
+pub fn delta_parts(d: TimeDelta) -> (u64, u64) {
     match d {
-        TimeDelta::NegativeInfinity => 0,
-        TimeDelta::Negative(n) => n,
-        TimeDelta::Positive(n) => n,
-        TimeDelta::PositiveInfinity => 0,
+        TimeDelta::NegativeInfinity => (0, 0),
+        TimeDelta::Negative(n) => (1, n),
+        TimeDelta::Positive(n) => (2, n),
+        TimeDelta::PositiveInfinity => (3, 0),
     }
 }

@@ -6,13 +6,14 @@ use arrival_group::ArrivalGroup;
 use bandwidth::{Bitrate, DataSize};
 use control::DelayController;
 use link_state::Link;
+use questions::Report;
 use std::io;
 use trendline::Delays;
 
 // Two packets of which the second is sent and received so many ns after the first.
 fn group(rt: &impl Print, name: &str, spacing: u64) -> io::Result<()> {
     let first = ArrivalGroup::new(0, 0);
-    if first.add_packet(spacing, spacing).need_new_group {
+    if first.add_packet(spacing, spacing).is_none() {
         return println!(rt; "{name}: starts anew");
     }
     println!(rt; "{name}: joins")
@@ -48,18 +49,16 @@ fn fresh() -> Link {
 
 // A report of packets of one byte, all sent and received at 0, to a fresh link.
 fn packets(rt: &impl Print, name: &str, sizes: &[u64], instants: &[u64]) -> io::Result<()> {
-    let called = link::report(
-        fresh(),
-        instants,
+    let report = Report {
+        sequences: instants,
         sizes,
-        instants,
-        instants,
-        instants,
-        None,
-        0,
-    );
-    let answer = called.answer;
-    let number = answer.number();
+        sends: instants,
+        remotes: instants,
+        receives: instants,
+        probe: None,
+        moment: 0,
+    };
+    let number = questions::number(link::report(fresh(), report).answer);
     println!(rt; "{name}: {number}")
 }
 

@@ -1,5 +1,7 @@
 -- A packet status chunk of draft-holmer-rmcat-transport-wide-cc-extensions-01, section 3.1: 16 bits that stand for a list of status symbols.
 use Rattle.std.specs.Prelude.{ℕ, zero, suc, ◌+◌, ◌*◌, ◌-◌, ◌/◌, ◌%◌, ◌^◌, Bool, false, ◌||◌, cond, List, [], ◌∷◌, eqb, ltb}
+use Rattle.status_chunk.specs.declared.Symbol.{Symbol}
+use Rattle.status_chunk.specs.declared.Symbol.TheVariants.{NotReceived, SmallDelta, LargeDelta, Reserved}
 
 -- ---- status symbols
 -- 0 is a packet that was not received, 1 one received with a small delta, 2 one with a large delta. The recv delta of a packet has as many bytes as its symbol says.
@@ -15,6 +17,12 @@ large_delta = 2
 abbrev pub reserved : ℕ
 reserved = 3
 
+abbrev pub number : Symbol → ℕ
+number NotReceived = not_received
+number SmallDelta = small_delta
+number LargeDelta = large_delta
+number Reserved = reserved
+
 -- ---- the kinds of chunk
 -- Below this the top bit is 0: a run length chunk. From here on a status vector.
 abbrev pub status_vector : ℕ
@@ -29,16 +37,13 @@ two_bit_vector = 0xc000
 unfoldable pub symbol_count : ℕ → ℕ
 symbol_count chunk = cond (ltb chunk status_vector) (chunk % 2 ^ 13) (cond (ltb chunk two_bit_vector) 14 7)
 
--- bit i of a vector's low 14, and its two bits i, from the high end
-abbrev pub one_bit : ℕ → ℕ → ℕ
-one_bit chunk i = chunk / 2 ^ (13 - i) % 2
-
-abbrev pub two_bit : ℕ → ℕ → ℕ
-two_bit chunk i = chunk / 2 ^ (12 - 2 * i) % 4
+-- symbol i of a vector of symbols of so many bits, from the high end of its low 14
+abbrev pub vector_symbol : ℕ → ℕ → ℕ → ℕ
+vector_symbol bits chunk i = chunk / 2 ^ (14 - bits * (i + 1)) % 2 ^ bits
 
 -- Symbol i. A run has one symbol, the two bits after the top one. In a vector of one bit 1 is a small delta and 0 not received, as in the draft's example and against its text.
 unfoldable pub symbol : ℕ → ℕ → ℕ
-symbol chunk i = cond (ltb chunk status_vector) (chunk / 2 ^ 13) (cond (ltb chunk two_bit_vector) (one_bit chunk i) (two_bit chunk i))
+symbol chunk i = cond (ltb chunk status_vector) (chunk / 2 ^ 13) (cond (ltb chunk two_bit_vector) (vector_symbol 1 chunk i) (vector_symbol 2 chunk i))
 
 -- the first of so many that are left, the first of all where there are not so many
 abbrev pub symbol_left : ℕ → ℕ → ℕ

@@ -1,7 +1,7 @@
 // A packet status chunk of a feedback message: 16 bits that stand for a list of status symbols.
 #![tactic(auto)]
 
-ghost use Rattle.std.specs.Prelude.{◌≡◌, ◌-◌, ◌<◌, ◌≤◌, min, take};
+ghost use Rattle.std.specs.Prelude.{◌≡◌, ◌+◌, ◌-◌, ◌*◌, ◌/◌, ◌%◌, ◌^◌, ◌<◌, ◌≤◌, ◌⊎◌, min, take};
 ghost use Rattle.status_chunk.specs.Chunk as Chunk;
 
 // From here on the top bit is 1: a status vector.
@@ -10,9 +10,38 @@ const STATUS_VECTOR: u16 = 0x8000;
 // From here on the two top bits are 1: a status vector of two-bit symbols.
 const TWO_BIT_VECTOR: u16 = 0xc000;
 
-pub const RESERVED: u16 = 3;
+// What a message tells of a packet.
+#[derive(Clone, Copy, Debug, PartialEq, Eq)]
+pub enum Symbol {
+    NotReceived,
+    SmallDelta,
+    LargeDelta,
+    Reserved,
+}
+
+impl Symbol {
+    fn of_bits(bits: u16) -> Symbol
+        requires { bits < 4 }
+        ensures { Chunk.number result ≡ bits }
+    {
+        match bits {
+            0 => Symbol::NotReceived,
+            1 => Symbol::SmallDelta,
+            2 => Symbol::LargeDelta,
+            _ => Symbol::Reserved,
+        }
+    }
+
+    // How many bytes the recv delta of its packet has.
+    pub fn byte_len(self) -> usize
+        ensures { result ≡ Chunk.number self }
+    {
+        self as usize
+    }
+}
 
 // How many symbols a chunk has.
+#[tactic(auto, unfolding(crate::specs::Chunk::symbol_count))]
 pub fn symbol_count(chunk: u16) -> u16
     ensures { result ≡ Chunk.symbol_count chunk }
 {
@@ -26,51 +55,33 @@ pub fn symbol_count(chunk: u16) -> u16
 }
 
 // The first of so many symbols that are left of a chunk; the first of all where it has not so many.
-pub fn symbol_left(chunk: u16, left: u16) -> u16
-    ensures { result ≡ Chunk.symbol_left chunk left }
+#[tactic(auto, unfolding(crate::specs::Chunk::symbol, crate::specs::Chunk::symbol_count))]
+pub fn symbol_left(chunk: u16, left: u16) -> Symbol
+    ensures { Chunk.number result ≡ Chunk.symbol_left chunk left }
 {
     if chunk < STATUS_VECTOR {
-        return chunk / 8192;
+        return Symbol::of_bits(chunk / 8192);
     }
     if chunk < TWO_BIT_VECTOR {
-        return one_bit_left(chunk, left);
+        return Symbol::of_bits(bits_left(chunk, 1, left));
     }
-    two_bit_left(chunk, left)
+    Symbol::of_bits(bits_left(chunk, 2, left))
 }
 
-fn one_bit_left(chunk: u16, left: u16) -> u16
-    ensures { result ≡ Chunk.one_bit chunk (14 - left) }
+// The same of a status vector whose symbols have so many bits, and the bits of the symbol.
+fn bits_left(chunk: u16, bits: u16, left: u16) -> u16
+    requires { (bits ≡ 1) ⊎ (bits ≡ 2) }
+    ensures { result ≡ Chunk.vector_symbol bits chunk (14 / bits - left) }
 {
-    if left == 0 {
-        return chunk % 2;
-    }
-    if left < 14 {
-        return (chunk >> (left - 1)) % 2;
-    }
-    (chunk >> 13) % 2
-}
-
-fn two_bit_left(chunk: u16, left: u16) -> u16
-    ensures { result ≡ Chunk.two_bit chunk (7 - left) }
-{
-    if left == 0 {
-        return chunk % 4;
-    }
-    if left < 7 {
-        return (chunk >> (2 * left - 2)) % 4;
-    }
-    (chunk >> 12) % 4
+    let behind = left.saturating_sub(1).min(14 / bits - 1);
+    (chunk >> (bits * behind)) % (1 << bits)
 }
 
 // How many of n statuses a chunk covers.
 pub fn covered(chunk: u16, n: u16) -> u16
     ensures { result ≡ min (Chunk.symbol_count chunk) n }
 {
-    let all = symbol_count(chunk);
-    if all < n {
-        return all;
-    }
-    n
+    symbol_count(chunk).min(n)
 }
 
 // How many bytes the recv deltas of a chunk's first n symbols have.
@@ -92,29 +103,19 @@ fn ones(chunk: u16, n: u16) -> usize
     requires { (Chunk.status_vector ≤ chunk) × ((chunk < Chunk.two_bit_vector) × (n ≤ 14)) }
     ensures { result ≡ Chunk.delta_bytes (Chunk.symbols_from chunk 0 n) }
 {
-    u16::count_ones(chunk % 16384 >> (14 - n)) as usize
+    (chunk % 16384 >> (14 - n)).count_ones() as usize
 }
 
-// Symbol i of a vector of two-bit symbols. From the last on it is the lowest two bits.
-fn two_bit(chunk: u16, i: u16) -> u16
-    ensures { result ≡ Chunk.two_bit chunk i }
-{
-    if i < 6 {
-        return (chunk >> (12 - 2 * i)) % 4;
-    }
-    chunk % 4
-}
-
-// The bytes of a vector of two-bit symbols.
+// The bytes of a vector of two-bit symbols, the last of them first. In place of those past n stand zeros; so the loop has a fixed length, which compiles to no loop.
 fn two_bit_bytes(chunk: u16, n: u16) -> usize
-    requires { Chunk.two_bit_vector ≤ chunk }
+    requires { (Chunk.two_bit_vector ≤ chunk) × (n ≤ 7) }
     ensures { result ≡ Chunk.delta_bytes (Chunk.symbols_from chunk 0 n) }
 {
     let mut bytes: usize = 0;
-    let mut i: u16 = 0;
-    while i < n {
-        bytes += two_bit(chunk, i) as usize;
-        i += 1;
+    let mut rest = chunk % 16384 >> (14 - 2 * n);
+    for _ in 0..7u16 {
+        bytes += usize::from(rest % 4);
+        rest >>= 2;
     }
     bytes
 }
@@ -125,7 +126,7 @@ pub fn any_reserved(chunk: u16, n: u16) -> bool
 {
     let all = covered(chunk, n);
     if chunk < STATUS_VECTOR {
-        return (0 < all) & (chunk / 8192 == RESERVED);
+        return (0 < all) & (chunk / 8192 == Symbol::Reserved as u16);
     }
     if chunk < TWO_BIT_VECTOR {
         return false;
@@ -135,15 +136,15 @@ pub fn any_reserved(chunk: u16, n: u16) -> bool
 
 // The same of a vector of two-bit symbols.
 fn two_bit_reserved(chunk: u16, n: u16) -> bool
-    requires { Chunk.two_bit_vector ≤ chunk }
+    requires { (Chunk.two_bit_vector ≤ chunk) × (n ≤ 7) }
     ensures { result ≡ Chunk.any_reserved (Chunk.symbols_from chunk 0 n) }
 {
-    let mut i: u16 = 0;
-    while i < n {
-        if two_bit(chunk, i) == RESERVED {
+    let mut rest = chunk % 16384 >> (14 - 2 * n);
+    for _ in 0..7u16 {
+        if rest % 4 == Symbol::Reserved as u16 {
             return true;
         }
-        i += 1;
+        rest >>= 2;
     }
     false
 }

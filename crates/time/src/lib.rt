@@ -29,13 +29,6 @@ pub enum TimeDelta {
     PositiveInfinity,
 }
 
-// Rust's `Instant::saturating_duration_since`, which a difference of instants is too: an early instant gives 0.
-pub fn saturating_duration_since(later: u64, earlier: u64) -> u64
-    ensures { result ≡ Time.saturating_duration_since later earlier }
-{
-    later.saturating_sub(earlier)
-}
-
 // The longer of a duration that may be missing and of another.
 #[tactic(auto, unfolding(crate::specs::Time::longest))]
 pub fn longest(duration: Option<u64>, other: u64) -> Option<u64>
@@ -298,6 +291,8 @@ impl From<u64> for Timestamp {
     }
 }
 
+// Its limits, places and comparisons are written as those of `TimeDelta` are: a trait of both would have no body to share, and Rust has no `PartialEq` for all
+// types of a trait.
 impl Timestamp {
     pub fn is_exact(self) -> bool
         ensures { result ≡ Time.is_exact self }

@@ -1,12 +1,11 @@
 -- A feedback message of draft-holmer-rmcat-transport-wide-cc-extensions-01, section 3.1, after the media source identifier: the header, the packet status chunks, the recv deltas. What lies past a list's end counts as 0.
-use Rattle.std.specs.Prelude.{ℕ, ◌+◌, ◌*◌, ◌-◌, ◌%◌, ◌^◌, cond, List, [], ◌∷◌, ◌++◌, eqb, ltb, ℤ, pos, ◌+ℤ◌, length, get_or, take, drop}
+use Rattle.std.specs.Prelude.{ℕ, ◌+◌, ◌*◌, ◌-◌, ◌%◌, ◌^◌, cond, List, [], ◌∷◌, ◌++◌, eqb, ltb, ℤ, pos, ◌+ℤ◌, length, get_or, take, drop, Some, None, Result, Ok, Err}
 use Rattle.std.proofs.Math.IntN.{sub_ℕ}
 use Rattle.status_chunk.specs.Chunk.{not_received, small_delta, large_delta, symbol_count, symbols_of, delta_bytes, any_reserved}
 use Rattle.twcc.specs.declared.Header.{Header}
-use Rattle.twcc.specs.declared.Judged.{Judged}
-use Rattle.twcc.specs.declared.Judged.TheVariants.{Good, CutShort, Reserved, NoStatus}
 use Rattle.twcc.specs.declared.Packet.{Packet}
-use Rattle.twcc.specs.declared.Packet.TheVariants.{NotReceived, Received}
+use Rattle.twcc.specs.declared.Refusal.{Refusal}
+use Rattle.twcc.specs.declared.Refusal.TheVariants.{CutShort, Reserved, NoStatus}
 
 -- ---- numbers
 -- 16 and 24 bits at a place, the most significant byte first
@@ -66,21 +65,25 @@ deltas_end message = deltas_at message + delta_bytes (symbols message)
 
 -- ---- the questions
 -- 15, a counted symbol that is there is reserved; then 14, a chunk or a delta is cut short: the chunks stand before the deltas, and a chunk that is missing after all symbols that are there
-abbrev pub judge_symbols : List ℕ → Judged
+abbrev pub judge_symbols : List ℕ → Result Header Refusal
 judge_symbols message =
-    cond (any_reserved (symbols message)) Reserved
-    (cond (ltb (length (symbols message)) (status_count message)) CutShort
-    (cond (ltb (length message) (deltas_end message)) CutShort (Good (read_header message))))
+    cond (any_reserved (symbols message)) (Err Reserved)
+    (cond (ltb (length (symbols message)) (status_count message)) (Err CutShort)
+    (cond (ltb (length message) (deltas_end message)) (Err CutShort) (Ok (read_header message))))
 
 -- before them 14 of the header, and 16 straight after it
-unfoldable pub judge : List ℕ → Judged
-judge message = cond (ltb (length message) header_bytes) CutShort (cond (eqb (status_count message) 0) NoStatus (judge_symbols message))
+unfoldable pub judge : List ℕ → Result Header Refusal
+judge message = cond (ltb (length message) header_bytes) (Err CutShort) (cond (eqb (status_count message) 0) (Err NoStatus) (judge_symbols message))
 
-abbrev pub number : Judged → ℕ
-number (Good h) = 0
-number CutShort = 14
-number Reserved = 15
-number NoStatus = 16
+abbrev pub refusal_number : Refusal → ℕ
+refusal_number CutShort = 14
+refusal_number Reserved = 15
+refusal_number NoStatus = 16
+
+-- 0 of a good message
+abbrev pub number : Result Header Refusal → ℕ
+number (Ok h) = 0
+number (Err r) = refusal_number r
 
 -- ---- the packets
 -- the recv delta of a symbol at the front of the deltas, in ticks of 250 µs: a byte, or two bytes and signed
@@ -88,7 +91,7 @@ unfoldable pub recv_delta : ℕ → List ℕ → ℤ
 recv_delta symbol deltas = cond (eqb symbol large_delta) (signed 0x8000 (read_u16 deltas 0)) (cond (eqb symbol small_delta) (pos (get_or deltas 0 0)) (pos 0))
 
 unfoldable pub packet : ℕ → ℕ → ℤ → Packet
-packet symbol sequence ticks = cond (eqb symbol not_received) (NotReceived sequence) (Received sequence ticks)
+packet symbol sequence ticks = record { sequence = sequence; ticks = cond (eqb symbol not_received) None (Some ticks) }
 
 -- the packets of symbols and deltas, from a sequence number and the time of the packet before on
 unfoldable pub packets_from : ℕ → ℤ → List ℕ → List ℕ → List Packet
@@ -97,11 +100,9 @@ packets_from sequence ticks (s ∷ ss) deltas =
     packet s sequence (ticks +ℤ recv_delta s deltas) ∷ packets_from ((sequence + 1) % 2 ^ 16) (ticks +ℤ recv_delta s deltas) ss (drop s deltas)
 
 -- the packets that a message tells of: those of its symbols, the first from the base sequence and the reference on; none of a message that is turned down
-abbrev pub packets_of : Judged → List ℕ → List Packet
-packets_of (Good h) message = packets_from (base_seq message) (pos 0) (symbols message) (drop (deltas_at message) message)
-packets_of CutShort message = []
-packets_of Reserved message = []
-packets_of NoStatus message = []
+abbrev pub packets_of : Result Header Refusal → List ℕ → List Packet
+packets_of (Ok h) message = packets_from (base_seq message) (pos 0) (symbols message) (drop (deltas_at message) message)
+packets_of (Err r) message = []
 
 unfoldable pub packets : List ℕ → List Packet
 packets message = packets_of (judge message) message

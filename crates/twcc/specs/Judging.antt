@@ -1,5 +1,5 @@
 -- What judging a message answers beside the judgement, and how it goes from chunk to chunk.
-use Rattle.std.specs.Prelude.{◌≡◌, refl, ℕ, zero, suc, ◌+◌, ◌*◌, ◌-◌, ◌≤◌, ◌<◌, min, Bool, true, cond, List, [], ◌∷◌, ◌++◌, ltb, length, take, drop}
+use Rattle.std.specs.Prelude.{◌≡◌, refl, ℕ, zero, suc, ◌+◌, ◌*◌, ◌-◌, ◌≤◌, ◌<◌, min, Bool, true, cond, List, [], ◌∷◌, ◌++◌, ltb, length, take, drop, Result, Ok, Err}
 use Rattle.std.proofs.Math.Path.{sym, ap}
 use Rattle.std.proofs.Common.{◌∙◌, add-zero}
 use Rattle.std.proofs.Math.Bool.{false}
@@ -13,23 +13,17 @@ use Rattle.status_chunk.specs.Laws.{take-length, take_split, take-symbols, any_a
 use Rattle.twcc.specs.Feedback.{read_u16, header_bytes, status_count, read_header, chunk_symbols, chunk_bytes, symbols, deltas_at, judge_symbols, judge}
 use Rattle.twcc.specs.Chunks.{same_test, drop-two}
 use Rattle.twcc.specs.declared.Header.{Header}
-use Rattle.twcc.specs.declared.Judged.{Judged}
-use Rattle.twcc.specs.declared.Judged.TheVariants.{Good, CutShort, Reserved, NoStatus}
+use Rattle.twcc.specs.declared.Refusal.{Refusal}
+use Rattle.twcc.specs.declared.Refusal.TheVariants.{CutShort, Reserved, NoStatus}
 use Rattle.twcc.specs.declared.Judgement.{Judgement}
-use Rattle.twcc.specs.declared.Chunks.{Chunks}
-use Rattle.twcc.specs.declared.Chunks.TheVariants as C
+use Rattle.twcc.specs.declared.Deltas.{Deltas}
 
 -- ---- the judgement with the place of the deltas
-abbrev pub refused : Judged → Judgement
-refused judged = record { judged = judged; deltas = 0 }
+abbrev pub judgement : Result Header Refusal → ℕ → Result Judgement Refusal
+judgement (Ok h) at = Ok (record { header = h; deltas = at })
+judgement (Err r) at = Err r
 
-abbrev pub judgement : Judged → ℕ → Judgement
-judgement (Good h) at = record { judged = Good h; deltas = at }
-judgement CutShort at = refused CutShort
-judgement Reserved at = refused Reserved
-judgement NoStatus at = refused NoStatus
-
-unfoldable pub judge_with_deltas : List ℕ → Judgement
+unfoldable pub judge_with_deltas : List ℕ → Result Judgement Refusal
 judge_with_deltas message = judgement (judge message) (deltas_at message)
 
 -- ---- chunk by chunk
@@ -38,8 +32,8 @@ abbrev pub by_chunks : {A : Type 0} → A → A → A → List ℕ → ℕ → A
 by_chunks reserved short whole chunks n = cond (any_reserved (take n (chunk_symbols chunks))) reserved (cond (ltb (length (take n (chunk_symbols chunks))) n) short whole)
 
 -- what the chunks at a place say, where the deltas of those before them have so many bytes
-unfoldable pub chunks_from : ℕ → ℕ → List ℕ → ℕ → Chunks
-chunks_from at bytes chunks n = by_chunks C.Reserved C.CutShort (C.End (at + chunk_bytes chunks n) (bytes + delta_bytes (take n (chunk_symbols chunks)))) chunks n
+unfoldable pub chunks_from : ℕ → ℕ → List ℕ → ℕ → Result Deltas Refusal
+chunks_from at bytes chunks n = by_chunks (Err Reserved) (Err CutShort) (Ok (record { at = at + chunk_bytes chunks n; bytes = bytes + delta_bytes (take n (chunk_symbols chunks)) })) chunks n
 
 module _ (at bytes a b : ℕ) (chunks : List ℕ) (n : ℕ) where
   abbrev chunk : ℕ
@@ -63,7 +57,7 @@ module _ (at bytes a b : ℕ) (chunks : List ℕ) (n : ℕ) where
   shifted : ltb (c + length later) n ≡ ltb (length later) (n - c)
   shifted = same_test (c + length later) n (length later) (n - c) (λ l. omega arith) (λ l. omega arith)
 
-  pub chunks-reserved : any_reserved here ≡ true → C.Reserved ≡ chunks_from at bytes (a ∷ b ∷ chunks) n
+  pub chunks-reserved : any_reserved here ≡ true → Err Reserved ≡ chunks_from at bytes (a ∷ b ∷ chunks) n
   unfolding chunks_from
   chunks-reserved e = rw (counted-first, any_append, e)
 
@@ -78,15 +72,15 @@ module _ (at bytes a b : ℕ) (chunks : List ℕ) (n : ℕ) where
 
 -- the same where the chunk is at a place of a message, and the chunks from there on say what all say
 module _
-    (message : List ℕ) (at bytes n chunk c : ℕ) {whole : Chunks} (there : at + 2 ≤ length message) (read : chunk ≡ read_u16 message at) (first : c ≡ min (symbol_count chunk) n)
+    (message : List ℕ) (at bytes n chunk c : ℕ) {whole : Result Deltas Refusal} (there : at + 2 ≤ length message) (read : chunk ≡ read_u16 message at) (first : c ≡ min (symbol_count chunk) n)
     (goes : chunks_from at bytes (drop at message) n ≡ whole) where
-  pub reserved-at : any_reserved (take n (symbols_of chunk)) ≡ true → C.Reserved ≡ whole
+  pub reserved-at : any_reserved (take n (symbols_of chunk)) ≡ true → Err Reserved ≡ whole
   reserved-at e = chunks-reserved at bytes _ _ (drop (at + 2) message) n (rw read at e) ∙ (rw (drop-two message at there) at goes)
 
   pub turn_at : 0 < n → any_reserved (take n (symbols_of chunk)) ≡ false → chunks_from (at + 2) (bytes + delta_bytes (take n (symbols_of chunk))) (drop (at + 2) message) (n - c) ≡ whole
   turn_at h e = rw (first, read) (sym (chunks-turn at bytes _ _ (drop (at + 2) message) n h (rw read at e)) ∙ (rw (drop-two message at there) at goes))
 
-pub chunks-short : (at bytes : ℕ) (chunks : List ℕ) (n : ℕ) → length chunks < 2 → 0 < n → C.CutShort ≡ chunks_from at bytes chunks n
+pub chunks-short : (at bytes : ℕ) (chunks : List ℕ) (n : ℕ) → length chunks < 2 → 0 < n → Err CutShort ≡ chunks_from at bytes chunks n
 unfolding chunks_from chunk_symbols any_reserved
 chunks-short at bytes [] zero h l = absurd (omega arith)
 chunks-short at bytes [] (suc n) h l = rw (lt-ltb 0 (suc n) (omega arith))
@@ -94,7 +88,7 @@ chunks-short at bytes (a ∷ []) zero h l = absurd (omega arith)
 chunks-short at bytes (a ∷ []) (suc n) h l = rw (lt-ltb 0 (suc n) (omega arith))
 chunks-short at bytes (a ∷ b ∷ chunks) n h l = absurd (omega arith)
 
-pub chunks-end : (at bytes : ℕ) (chunks : List ℕ) → C.End at bytes ≡ chunks_from at bytes chunks 0
+pub chunks-end : (at bytes : ℕ) (chunks : List ℕ) → Ok (record { at = at; bytes = bytes }) ≡ chunks_from at bytes chunks 0
 unfolding chunks_from chunk_bytes any_reserved delta_bytes
 chunks-end at bytes [] = simp add-zero
 chunks-end at bytes (a ∷ []) = simp add-zero
@@ -102,22 +96,22 @@ chunks-end at bytes (a ∷ b ∷ chunks) = simp add-zero
 
 -- ---- a law a case
 -- the judgement by what the chunks say
-abbrev pub judgement_by : List ℕ → Header → Chunks → Judgement
-judgement_by message h (C.End at bytes) = judgement (cond (ltb (length message) (at + bytes)) CutShort (Good h)) at
-judgement_by message h C.CutShort = refused CutShort
-judgement_by message h C.Reserved = refused Reserved
+abbrev pub judgement_by : List ℕ → Header → Result Deltas Refusal → Result Judgement Refusal
+judgement_by message h (Ok d) = judgement (cond (ltb (length message) (d.at + d.bytes)) (Err CutShort) (Ok h)) d.at
+judgement_by message h (Err r) = Err r
 
 module _ (message : List ℕ) where
-  pub judged-short : length message < header_bytes → refused CutShort ≡ judge_with_deltas message
+  pub judged-short : length message < header_bytes → Err CutShort ≡ judge_with_deltas message
   unfolding judge_with_deltas judge
   judged-short l = rw (lt-ltb _ _ l)
 
-  pub judged-none : header_bytes ≤ length message → status_count message ≡ 0 → refused NoStatus ≡ judge_with_deltas message
+  pub judged-none : header_bytes ≤ length message → status_count message ≡ 0 → Err NoStatus ≡ judge_with_deltas message
   unfolding judge_with_deltas judge
   judged-none l z = rw (le-ltb _ _ l, eq-eqb _ _ z)
 
   by : (h : Header) (x y : Bool) (e b : ℕ) →
-      judgement_by message h (cond x C.Reserved (cond y C.CutShort (C.End e b))) ≡ judgement (cond x Reserved (cond y CutShort (cond (ltb (length message) (e + b)) CutShort (Good h)))) e
+      judgement_by message h (cond x (Err Reserved) (cond y (Err CutShort) (Ok (record { at = e; bytes = b }))))
+      ≡ judgement (cond x (Err Reserved) (cond y (Err CutShort) (cond (ltb (length message) (e + b)) (Err CutShort) (Ok h)))) e
   by h true y e b = refl
   by h false true e b = refl
   by h false false e b = refl
@@ -130,7 +124,7 @@ module _ (message : List ℕ) where
       (by (read_header message) (any_reserved (symbols message)) (ltb (length (symbols message)) (status_count message)) (deltas_at message) (delta_bytes (symbols message)))
 
   pub judged-by :
-      (h : Header) (r t : Chunks) → h ≡ read_header message → header_bytes ≤ length message → (h.status_count ≡ 0 → ⊥) →
+      (h : Header) (r t : Result Deltas Refusal) → h ≡ read_header message → header_bytes ≤ length message → (h.status_count ≡ 0 → ⊥) →
       r ≡ chunks_from header_bytes 0 (drop header_bytes message) h.status_count → r ≡ t → judgement_by message h t ≡ judge_with_deltas message
   unfolding judge_with_deltas judge
   judged-by h r t e l z c f =
@@ -139,12 +133,15 @@ module _ (message : List ℕ) where
       let g : t ≡ chunks_from header_bytes 0 (drop header_bytes message) (status_count message) = sym f ∙ c ∙ ap (λ (k : ℕ). chunks_from header_bytes 0 (drop header_bytes message) k) n in
       rw (le-ltb (length message) header_bytes l, m, g, e) chunks-say
 
-pub judged-is : (message : List ℕ) → (judge_with_deltas message).judged ≡ judge message
+-- the judgement alone
+abbrev pub header_of : Result Judgement Refusal → Result Header Refusal
+header_of (Ok j) = Ok j.header
+header_of (Err r) = Err r
+
+pub judged-is : (message : List ℕ) → header_of (judge_with_deltas message) ≡ judge message
 unfolding judge_with_deltas
 judged-is message = go (judge message)
   where
-    go : (j : Judged) → (judgement j (deltas_at message)).judged ≡ j
-    go (Good h) = refl
-    go CutShort = refl
-    go Reserved = refl
-    go NoStatus = refl
+    go : (j : Result Header Refusal) → header_of (judgement j (deltas_at message)) ≡ j
+    go (Ok h) = refl
+    go (Err r) = refl

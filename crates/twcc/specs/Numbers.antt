@@ -1,7 +1,8 @@
 -- Signed numbers: two's complement in 32 bits, and laws.
-use Rattle.std.specs.Prelude.{◌≡◌, refl, ℕ, zero, suc, ◌+◌, ◌*◌, ◌-◌, ◌^◌, ◌≤◌, ◌<◌, Bool, true, false, cond, ltb, ℤ, pos, negsuc, ◌-ℤ◌, List, get_or}
+use Rattle.std.specs.Prelude.{◌≡◌, refl, ℕ, suc, ◌+◌, ◌*◌, ◌-◌, ◌^◌, ◌≤◌, ◌<◌, Bool, true, false, cond, ltb, ℤ, pos, negsuc, List, get_or}
 use Rattle.std.proofs.Common.{sym, ap, ◌∙◌, arith, lt-ltb, le-ltb, ltb-true, ltb-false}
 use Rattle.std.proofs.Math.IntN.{sub_ℕ}
+use Rattle.std.specs.Int.{w16, w32, cast_signed, cast_unsigned, int_shr}
 use Rattle.twcc.specs.Feedback.{signed, read_header, read_u16}
 
 -- two's complement, with `half` the top bit alone, in 32 bits
@@ -22,11 +23,6 @@ pub signed_high : (half bits : ℕ) → half ≤ bits → bits < 2 * half → si
 unfolding signed
 signed_high half bits h l = rw (le-ltb bits half h) (sub-below bits (2 * half) l)
 
--- -1 - n
-pub minus : (n : ℕ) → negsuc 0 -ℤ pos n ≡ negsuc n
-minus zero = refl
-minus (suc n) = ap negsuc (omega arith)
-
 -- a number in 32 bits is the same number
 pub signed-extend : (half bits : ℕ) → bits < 2 * half → half ≤ 2 ^ 31 → signed 0x8000_0000 (sign_extend half bits) ≡ signed half bits
 unfolding sign_extend
@@ -39,6 +35,34 @@ signed-extend half bits h l = go (ltb bits half) refl
     go false e =
         let k : half ≤ bits = ltb-false bits half e in
         signed_high 0x8000_0000 (bits + (2 ^ 32 - 2 * half)) (omega arith) (omega arith) ∙ ap negsuc (omega arith) ∙ sym (signed_high half bits k h)
+
+-- ---- what std's conversions give
+-- by the sign bit
+split : {A : Type 0} (bits half : ℕ) → (bits < half → A) → (half ≤ bits → A) → A
+split {A} bits half f g = go (ltb bits half) refl
+  where
+    go : (t : Bool) → ltb bits half ≡ t → A
+    go true e = f (ltb-true bits half e)
+    go false e = g (ltb-false bits half e)
+
+-- 32 bits as a signed number
+pub cast-signed : (bits : ℕ) → bits < 2 ^ 32 → cast_signed w32 bits ≡ signed 0x8000_0000 bits
+cast-signed bits h =
+    split bits 0x8000_0000
+    (λ l. sym (signed_low 0x8000_0000 bits l ∙ sym (simp (lt-ltb bits 0x8000_0000 l))))
+    (λ l. sym (signed_high 0x8000_0000 bits l (omega arith) ∙ sym (simp (le-ltb bits 0x8000_0000 l))))
+
+-- 16 bits as a signed number, in 32 bits
+pub cast-extend : (bits : ℕ) → bits < 2 ^ 16 → cast_unsigned w32 (cast_signed w16 bits) ≡ sign_extend 0x8000 bits
+unfolding sign_extend
+cast-extend bits h = split bits 0x8000 (λ l. simp (lt-ltb bits 0x8000 l)) (λ l. simp (le-ltb bits 0x8000 l) (omega arith))
+
+-- 24 bits as a signed number
+pub shift-signed : (bits : ℕ) → bits < 2 ^ 24 → int_shr (cast_signed w32 (bits * 256)) 8 ≡ signed 0x80_0000 bits
+shift-signed bits h =
+    split bits 0x80_0000
+    (λ l. let k : bits * 256 < 0x8000_0000 = omega arith in simp (lt-ltb (bits * 256) 0x8000_0000 k) (ap pos (omega arith) ∙ sym (signed_low 0x80_0000 bits l)))
+    (λ l. let k : 0x8000_0000 ≤ bits * 256 = omega arith in simp (le-ltb (bits * 256) 0x8000_0000 k) (ap negsuc (omega arith) ∙ sym (signed_high 0x80_0000 bits l (omega arith))))
 
 -- a header by its four numbers
 pub header_is :

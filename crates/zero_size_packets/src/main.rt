@@ -3,8 +3,9 @@
 #![tactic(auto)]
 
 use bandwidth::{Bitrate};
-use link::{Called, Opened, Opening};
+use link::{Called, Opening};
 use link_state::Link;
+use questions::Report;
 use std::io;
 use std::num::wrapping_add_u64;
 
@@ -84,21 +85,16 @@ fn packets(report: u64, first_size: u64) -> Lists {
 }
 
 fn report(lists: Lists, moment: u64, link: Link) -> Called {
-    let sequences = lists.sequences;
-    let sizes = lists.sizes;
-    let sends = lists.sends;
-    let remotes = lists.remotes;
-    let receives = lists.receives;
-    link::report(
-        link,
-        &sequences,
-        &sizes,
-        &sends,
-        &remotes,
-        &receives,
-        None,
+    let report = Report {
+        sequences: &lists.sequences,
+        sizes: &lists.sizes,
+        sends: &lists.sends,
+        remotes: &lists.remotes,
+        receives: &lists.receives,
+        probe: None,
         moment,
-    )
+    };
+    link::report(link, report)
 }
 
 // When a report is taken: 100 ms after its first packet was sent.
@@ -109,7 +105,7 @@ fn taken(report: u64) -> u64 {
 // In bps.
 fn estimate(link: Link) -> u64 {
     let control = link.control;
-    float::as_u64(control.last_estimate().as_f64())
+    std::num::saturating_f64_to_u64(control.last_estimate().as_f64())
 }
 
 fn is_shown(number: u64) -> bool {
@@ -140,9 +136,8 @@ struct State {
 
 fn next(rt: &impl Print, number: u64, first_size: u64, state: State) -> io::Result<State> {
     let called = report(packets(number, first_size), taken(number), state.link);
-    let answer = called.answer;
     let link = called.link;
-    let refused = wrapping_add_u64(state.refused, (answer.number() != 0) as u64);
+    let refused = wrapping_add_u64(state.refused, called.answer.is_err() as u64);
     show(rt, number, estimate(link), refused)?;
     Ok(State { link, refused })
 }
@@ -157,11 +152,10 @@ fn pass(rt: &impl Print, link: Link, first_size: u64) -> io::Result<()> {
 
 fn run(rt: &impl Print, name: &str, first_size: u64) -> io::Result<()> {
     println!(rt; "{name}")?;
-    let opened = Opening::judge(Bitrate(1_000_000.0), 500_000_000, 150_000_000);
-    if let Opened::Accepted(o) = opened {
-        return pass(rt, o.link(), first_size);
+    match Opening::judge(Bitrate(1_000_000.0), 500_000_000, 150_000_000) {
+        Ok(opening) => pass(rt, opening.link(), first_size),
+        Err(_) => println!(rt; "refused"),
     }
-    println!(rt; "refused")
 }
 
 fn main(rt: HostRuntime) -> io::Result<()> {

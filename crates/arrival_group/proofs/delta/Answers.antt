@@ -2,10 +2,10 @@
 use Rattle.arrival_group.specs.ArrivalGroup.{delta}
 use Rattle.arrival_group.proofs.delta.Goals as goal
 
-pub returns-in-None : goal.returns-in-None
+pub returns-in_err-previous : goal.returns-in_err-previous
 unfolding delta
-returns-in-None c = simp c.in-None.is
+returns-in_err-previous c = simp (c.from_residual.ensures, c.branch-previous.ensures, c.in_err-previous.is)
 
-pub returns-in-Some : goal.returns-in-Some
+pub returns : goal.returns
 unfolding delta
-returns-in-Some c = simp (← c.arrival_delta.ensures, ← c.departure_delta.ensures, c.in-Some.is)
+returns c = simp (← c.arrival_delta.ensures, ← c.departure_delta.ensures, c.branch-previous.ensures, c.in_ok-previous.is)

@@ -21,10 +21,10 @@ module _ (q : Refusal) {n : ℕ} (is : n ≡ number q) where
   minus-fits = subst (SFits w64) (sym minus) (opposite-fits (number q) (number-below q))
 
 pub overflow_cast-result : goal.overflow_cast-result
-overflow_cast-result c = fits _ (below c.args.refusal c.number.ensures)
+overflow_cast-result c = fits _ (below c.args.refusal c.from.ensures)
 
 pub overflow_sub-result : goal.overflow_sub-result
-overflow_sub-result c = minus-fits c.args.refusal c.number.ensures
+overflow_sub-result c = minus-fits c.args.refusal c.from.ensures
 
 pub returns : goal.returns
-returns c = ap (λ z. to_z w64 (of_z w64 z)) (minus c.args.refusal c.number.ensures) ∙ to_z-of_z (opposite-fits (number c.args.refusal) (number-below c.args.refusal))
+returns c = ap (λ z. to_z w64 (of_z w64 z)) (minus c.args.refusal c.from.ensures) ∙ to_z-of_z (opposite-fits (number c.args.refusal) (number-below c.args.refusal))

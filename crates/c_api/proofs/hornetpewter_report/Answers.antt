@@ -30,11 +30,9 @@ returns-then-not-in_range c =
 pub returns-then-is_sorted : goal.returns-then-is_sorted
 returns-then-is_sorted c =
     let stored = c.report_in_order.ensures in
-    let sorted = c in
-    let q1 = sorted in
-    let good = both _ _ (was-yes q1.in_range.ensures q1.if-not-in_range.false) in
-    let loaded = q1.load-lent.ensures in
-    let told = report-sorted _ _ good.1 (sym sorted.is_sorted.ensures ∙ c.if-is_sorted.true) ∙ probed _ _ sorted.probe_result-result.ensures in
+    let good = both _ _ (was-yes c.in_range.ensures c.if-not-in_range.false) in
+    let loaded = c.load-lent.ensures in
+    let told = report-sorted _ _ good.1 (sym (rw c.keys.ensures at c.is_sorted.ensures) ∙ c.if-is_sorted.true) ∙ probed _ _ c.probe_result.ensures in
     record {
       value = code_is _ loaded _ good.0 told c.report_in_order.type_inv stored.value;
       link_after = stored.link_after ∙ words-is _ loaded _ good.0 told;
@@ -46,12 +44,9 @@ returns-then-is_sorted c =
 pub returns : goal.returns
 returns c =
     let stored = c.store.ensures in
-    let called = c in
-    let probe = called in
-    let q1 = probe in
-    let good = both _ _ (was-yes q1.in_range.ensures q1.if-not-in_range.false) in
-    let loaded = q1.load-lent.ensures in
-    let told = called.report-called.ensures ∙ probed _ _ probe.probe_result-result.ensures in
+    let good = both _ _ (was-yes c.in_range.ensures c.if-not-in_range.false) in
+    let loaded = c.load-lent.ensures in
+    let told = c.report-called.ensures ∙ probed _ _ c.probe_result.ensures in
     record {
       value = code_is _ loaded _ good.0 told c.store.type_inv stored.value;
       link_after = stored.link_after ∙ words-is _ loaded _ good.0 told;

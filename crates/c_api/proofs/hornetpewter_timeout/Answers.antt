@@ -5,7 +5,7 @@ use Rattle.questions.proofs.Laws.{was-no, was-yes}
 use Rattle.questions.specs.declared.Refusal.TheVariants.{OutOfRange}
 use Rattle.link_state.specs.declared.Link.{Link}
 use Rattle.link.specs.Laws.{timeout-from-7}
-use Rattle.link.proofs.Laws.{timed-refused, timed-taken, told}
+use Rattle.link.proofs.Laws.{timed-refused, timed-taken}
 use Rattle.c_api.proofs.Laws.{bitrate-no, bitrate-yes, call-out, code-no, code-yes, hypothesis-no, hypothesis-yes, next-timeout-no, next-timeout-yes, reply-is, shown-is, timeout-taken, words-is, words-kept}
 use Rattle.c_api.proofs.hornetpewter_timeout.Goals as goal
 
@@ -20,15 +20,14 @@ returns-then-not-in_range c =
       next_timeout_after = next-timeout-no OutOfRange no _;
     }
 
-pub returns-in-Some : goal.returns-in-Some
-returns-in-Some c =
-    let q = c.in-Some.refusal in
-    let q7 = c in
-    let good = both _ _ (was-yes q7.in_range.ensures q7.if-not-in_range.false) in
-    let refused = timed-refused _ _ q (told q7.timeout-judged.ensures c.in-Some.is) ∙ sym (timeout-from-7 _ _ good.1) in
-    let no = sym (reply-is _ q7.load-lent.ensures _ good.0 refused) in
+pub returns-in-Err : goal.returns-in-Err
+returns-in-Err c =
+    let q = c.in-Err.refusal in
+    let good = both _ _ (was-yes c.in_range.ensures c.if-not-in_range.false) in
+    let refused = timed-refused _ _ q c.in-Err.ensures ∙ sym (timeout-from-7 _ _ good.1) in
+    let no = sym (reply-is _ c.load-lent.ensures _ good.0 refused) in
     record {
-      value = code-no q no c.code-in-Some.type_inv c.code-in-Some.ensures;
+      value = code-no q no c.code-in-Err.type_inv c.code-in-Err.ensures;
       link_after = words-kept _ _ q no;
       bitrate_after = bitrate-no q no _;
       hypothesis_after = hypothesis-no q no _;
@@ -38,13 +37,10 @@ returns-in-Some c =
 pub returns : goal.returns
 returns c =
     let tell = c.tell.ensures in
-    let update = c in
-    let q7 = update in
-    let load = q7.load-lent in
-    let good = both _ _ (was-yes q7.in_range.ensures q7.if-not-in_range.false) in
-    let after : Link = record { acked = load.result.acked; control = update.handle_timeout-control.result } in
-    let none = told q7.timeout-judged.ensures update.in_default.is in
-    let taken = timeout-from-7 _ _ good.1 ∙ sym (timed-taken _ _ none update.current_estimate.ensures update.handle_timeout-control.ensures) in
+    let load = c.load-lent in
+    let good = both _ _ (was-yes c.in_range.ensures c.if-not-in_range.false) in
+    let after : Link = record { acked = load.result.acked; control = c.handle_timeout-control.result } in
+    let taken = timeout-from-7 _ _ good.1 ∙ sym (timed-taken _ _ c.in_default.ensures c.current_estimate.ensures c.handle_timeout-control.ensures) in
     let yes = shown-is after taken ∙ reply-is _ load.ensures _ good.0 refl in
     record {
       value = code-yes after yes;

@@ -4,14 +4,14 @@ use Rattle.questions.specs.Laws.{number-above}
 use Rattle.link_state.specs.declared.Link.{Link}
 use Rattle.link.specs.Link.{Outcome}
 use Rattle.link.specs.Laws.{in-order-refused, in-order-taken}
-use Rattle.link.proofs.Laws.{judged-acked, judged-first}
+use Rattle.link.proofs.Laws.{judged-acked, judged-no, judged-none}
 use Rattle.c_api.proofs.Laws.{bitrate-no, bitrate-yes, code-no, code-yes, hypothesis-no, hypothesis-yes, next-timeout-no, next-timeout-yes, shown-is, words-no, words-taken}
 use Rattle.c_api.proofs.report_in_order.Goals as goal
 
-pub returns-in-Some : goal.returns-in-Some
-returns-in-Some c =
-    let q = c.in-Some.question in
-    let first = judged-first _ _ c.judge_report-judged.ensures c.in-Some.is in
+pub returns-in-Err : goal.returns-in-Err
+returns-in-Err c =
+    let q = c.in-Err.refusal in
+    let first = judged-no _ _ q c.in-Err.ensures in
     let no = ap (λ (o : Outcome). o.reply) (in-order-refused _ _ first (number-above q)) in
     record {
       value = code-no q no c.code.type_inv c.code.ensures;
@@ -24,12 +24,8 @@ returns-in-Some c =
 pub returns : goal.returns
 returns c =
     let tell = c.tell.ensures in
-    let update = c in
-    let told = update in
-    let judged = told.judge_report-judged.ensures in
-    let none = told.in_default.is in
-    let after : Link = record { acked = told.judge_report-judged.result.acked; control = update.update-control.result } in
-    let taken = in-order-taken _ _ (judged-first _ _ judged none) (judged-acked _ _ judged none) update.current_estimate.ensures update.update-control.ensures in
+    let after : Link = record { acked = c.in-Ok.acked; control = c.update-control.result } in
+    let taken = in-order-taken _ _ (judged-none _ _ c.in-Ok.ensures) (judged-acked _ _ c.in-Ok.ensures) c.current_estimate.ensures c.update-control.ensures in
     let yes = shown-is after taken in
     record {
       value = code-yes after yes;

@@ -4,10 +4,10 @@ use Rattle.link.specs.Link.{reply}
 use Rattle.c_api.proofs.Laws.{bitrate-no, code-no, hypothesis-no, next-timeout-no, words-no}
 use Rattle.c_api.proofs.store.Goals as goal
 
-pub returns-in-Refused : goal.returns-in-Refused
-returns-in-Refused c =
-    let q = c.in-Refused.refusal in
-    let no = ap reply c.in-Refused.is in
+pub returns-in-Err : goal.returns-in-Err
+returns-in-Err c =
+    let q = c.in-Err.refusal in
+    let no = ap reply c.in-Err.is in
     record {
       value = code-no q no c.code.type_inv c.code.ensures;
       link_after = words-no q no _ _;
@@ -16,9 +16,9 @@ returns-in-Refused c =
       next_timeout_after = next-timeout-no q no _;
     }
 
-pub returns-in-Accepted : goal.returns-in-Accepted
-returns-in-Accepted c =
-    rw c.in-Accepted.is (record {
+pub returns-in-Ok : goal.returns-in-Ok
+returns-in-Ok c =
+    rw c.in-Ok.is (record {
       value = refl;
       link_after = c.store.ensures;
       bitrate_after = refl;

@@ -8,7 +8,7 @@ pub loop-i-preserved : goal.loop-i-preserved
 loop-i-preserved c =
     let l = c in
     let a = l.args in
-    fold-turn add_rtt a.local_send_times.now a.local_recv_times.now l.loop-i.i l.loop-i.invariant (simp (c.longest-max_rtt.ensures, c.saturating_duration_since-rtt.ensures)) (omega arith)
+    fold-turn add_rtt a.local_send_times.now a.local_recv_times.now l.loop-i.i l.loop-i.invariant (simp (c.longest-max_rtt.ensures, c.saturating_sub-rtt.ensures)) (omega arith)
 
 pub returns : goal.returns
 returns c =

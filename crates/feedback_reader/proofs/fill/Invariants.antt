@@ -2,9 +2,8 @@ use Rattle.std.proofs.Common.{◌≡◌, ◌-◌, length, drop}
 use Rattle.feedback_reader.specs.Reader.{filled}
 use Rattle.feedback_reader.proofs.fill.Given as goal
 
-abbrev pub invariant-loop-left : goal.invariant-loop-left
-invariant-loop-left l =
-    filled (drop l.next_chunk l.message) l.next_chunk l.chunk l.left ≡ filled (drop l.first l.message) l.first l.at_hand l.symbols_left
+abbrev pub invariant-loop-place : goal.invariant-loop-place
+invariant-loop-place l = filled (drop l.place.next_chunk l.message) l.place ≡ filled (drop l.fn.at_hand.next_chunk l.message) l.fn.at_hand
 
-abbrev pub decreases-loop-left : goal.decreases-loop-left
-decreases-loop-left l = length l.message - l.next_chunk
+abbrev pub decreases-loop-place : goal.decreases-loop-place
+decreases-loop-place l = length l.message - l.place.next_chunk

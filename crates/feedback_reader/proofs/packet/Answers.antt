@@ -1,16 +1,16 @@
--- `feedback_reader::packet` meets its contract: the test on the way chooses the definition's case.
-use Rattle.std.proofs.Common.{ap, ◌∙◌, to_z-of_z, w32, eq-eqb, ne_eqb}
+-- `feedback_reader::packet` meets its contract: the symbol chooses the definition's case.
+use Rattle.std.proofs.Common.{to_z-of_z, w32}
 use borrow.Author.Rules.{sfits_of}
+use Rattle.status_chunk.specs.Laws.{received}
 use Rattle.twcc.specs.Feedback.{packet}
-use Rattle.twcc.specs.declared.Packet.TheVariants.{Received}
+use Rattle.twcc.specs.Numbers.{cast-signed}
 use Rattle.feedback_reader.proofs.packet.Goals as goal
 
-pub returns-then-symbol-eq0 : goal.returns-then-symbol-eq0
+pub returns-in-NotReceived : goal.returns-in-NotReceived
 unfolding packet
-returns-then-symbol-eq0 c = simp (eq-eqb _ _ c.if-symbol-eq0.true)
+returns-in-NotReceived c = rw c.in-NotReceived.is
 
-pub returns : goal.returns
+pub returns-in_default : goal.returns-in_default
 unfolding packet
-returns c =
-    rw (ne_eqb _ _ c.if-symbol-eq0.false)
-    (ap (Received c.args.sequence) (to_z-of_z (sfits_of {w = w32} {z = c.as_i32.result} c.as_i32.type_inv) ∙ c.as_i32.ensures))
+returns-in_default c =
+    rw (received c.args.symbol c.in_default.not-NotReceived, to_z-of_z (sfits_of {w = w32} {z = c.cast_signed.result} c.cast_signed.type_inv), c.cast_signed.ensures, cast-signed c.args.sum c.ranges.sum.fits)

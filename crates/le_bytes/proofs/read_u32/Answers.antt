@@ -1,22 +1,6 @@
--- Where four bytes are there, they are joined by shifts.
-use lib.Dec.{lit≤}
-use Rattle.le_bytes.proofs.Laws.{le-past, byte_fits, joined-le}
+use Rattle.std.proofs.Common.{◌∙◌}
+use Rattle.le_bytes.proofs.Laws.{le-from}
 use Rattle.le_bytes.proofs.read_u32.Goals as goal
 
-pub returns-then-s-at : goal.returns-then-s-at
-returns-then-s-at c = le-past 4 _ _ c.if-s-at.true
-
-pub overflow_cast-result-2 : goal.overflow_cast-result-2
-overflow_cast-result-2 c = byte_fits (lit≤ tt) (c.type_inv.s _)
-
-pub overflow_cast-result-3 : goal.overflow_cast-result-3
-overflow_cast-result-3 c = byte_fits (lit≤ tt) (c.type_inv.s _)
-
-pub overflow_cast-result-4 : goal.overflow_cast-result-4
-overflow_cast-result-4 c = byte_fits (lit≤ tt) (c.type_inv.s _)
-
-pub overflow_cast-result-5 : goal.overflow_cast-result-5
-overflow_cast-result-5 c = byte_fits (lit≤ tt) (c.type_inv.s _)
-
 pub returns : goal.returns
-returns c = joined-le _ c.type_inv.s 32 3 _ (lit≤ tt)
+returns c = c.from_le_bytes.ensures ∙ le-from c.args.s.now c.read_bytes.result 3 c.args.at c.read_bytes.ensures.bytes

@@ -1,10 +1,8 @@
-use Prim.Native.Nat.{◌≤◌, ◌-◌}
-use lib.ListN.{length}
-use Rattle.link.proofs.Laws.{Left}
+use Rattle.std.proofs.Common.{◌≡◌, length, drop}
+use Rattle.link.specs.Link.{acknowledged}
 use Rattle.link.proofs.acknowledge.Given as goal
 
-abbrev pub invariant-loop-i : goal.invariant-loop-i
-invariant-loop-i l = (l.i ≤ length l.remotes) × Left l.remotes l.sizes l.initial.acked l.acked l.sums_in l.i
-
-abbrev pub decreases-loop-i : goal.decreases-loop-i
-decreases-loop-i l = length l.remotes - l.i
+abbrev pub invariant-loop-remote : goal.invariant-loop-remote
+invariant-loop-remote l =
+    (goal.iterator-loop-remote).can_next l.remote-iterator × (goal.iterator-loop-remote).is_finite l.remote-iterator
+    × (acknowledged l.acked (drop (length l.yielded) l.remotes) (drop (length l.yielded) l.sizes) ≡ acknowledged l.initial.acked l.remotes l.sizes)

@@ -10,7 +10,7 @@ returns-then-not-in_range c = c.refused.ensures ∙ sym (report-1 _ _ (was-no c.
 pub returns-then-is_sorted : goal.returns-then-is_sorted
 returns-then-is_sorted c =
     c.report_in_order.ensures
-    ∙ report-sorted _ _ (was-yes c.in_range.ensures c.if-not-in_range.false) (sym c.is_sorted.ensures ∙ c.if-is_sorted.true)
+    ∙ report-sorted _ _ (was-yes c.in_range.ensures c.if-not-in_range.false) (sym (rw c.keys.ensures at c.is_sorted.ensures) ∙ c.if-is_sorted.true)
 
 pub report_unsorted-requires : goal.report_unsorted-requires
 report_unsorted-requires c =

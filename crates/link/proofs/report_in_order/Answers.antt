@@ -2,17 +2,14 @@
 use mathlib.Core.Path.{sym, ◌∙◌}
 use Rattle.questions.specs.Laws.{number-above}
 use Rattle.link.specs.Laws.{in-order-refused, in-order-taken}
-use Rattle.link.proofs.Laws.{judged-acked, judged-first}
+use Rattle.link.proofs.Laws.{judged-acked, judged-no, judged-none}
 use Rattle.link.proofs.report_in_order.Goals as goal
 
-pub returns-in-Some : goal.returns-in-Some
-returns-in-Some c =
-    c.refused.ensures
-    ∙ sym (in-order-refused _ _ (judged-first _ _ c.judge_report-judged.ensures c.in-Some.is) (number-above c.in-Some.question))
+pub returns-in-Err : goal.returns-in-Err
+returns-in-Err c =
+    c.refused.ensures ∙ sym (in-order-refused _ _ (judged-no _ _ c.in-Err.refusal c.in-Err.ensures) (number-above c.in-Err.refusal))
 
-pub returns : goal.returns
-returns c =
-    let judged = c.judge_report-judged.ensures in
-    let none = c.in_default.is in
+pub returns-in-Ok : goal.returns-in-Ok
+returns-in-Ok c =
     c.accepted.ensures
-    ∙ sym (in-order-taken _ _ (judged-first _ _ judged none) (judged-acked _ _ judged none) c.current_estimate.ensures c.update-control.ensures)
+    ∙ sym (in-order-taken _ _ (judged-none _ _ c.in-Ok.ensures) (judged-acked _ _ c.in-Ok.ensures) c.current_estimate.ensures c.update-control.ensures)

@@ -1,100 +1,83 @@
--- `pass_file::list_chain` meets its contract. The loop's invariant: record k is on the linked chain, the lines from it on are left to write,
--- the five lists keep the packets that wait, and the link is good, so that it is in range for the next call.
-use Prim.Native.Nat.{◌-◌}
-use mathlib.Core.Path.{◌≡◌, sym, ap, subst, ◌∙◌}
-use mathlib.Core.List.{[]}
-use mathlib.Core.Bool.{cond}
-use native.Mathlib.Omega.{arith}
-use lib.Dec.{eqb}
-use lib.ListN.{take}
+-- Each turn writes the record's line, if it is a call, and leaves what follows it.
+use Rattle.std.proofs.Common.{◌≡◌, ◌∙◌, sym, ap, subst, cond, eqb, [], arith}
+use Rattle.std.specs.Result.{result_unwrap_or}
+use Rattle.pass_records.specs.declared.Kind.TheVariants as Kind
 use Rattle.link_runs.specs.Statement.{call}
 use Rattle.link_runs.specs.InRange.{good-in-range}
-use Rattle.pass_records.specs.PassRecords.{chain_from, kind, next, record_count, report}
-use Rattle.pass_records.specs.Laws.{Onward, onward-linked}
+use Rattle.pass_records.specs.PassRecords.{chain_from, kind, kind_of, next, record_count}
+use Rattle.pass_records.specs.Laws.{Onward, kind-other, kind-packet, kind-report, onward-linked}
 use Rattle.pass_file.specs.Judged.{link_of}
 use Rattle.pass_file.specs.PassFile.{call_of}
-use Rattle.pass_file.proofs.Chain.{Gives, Progress, joined, left-from, line-of, none_left, report-accepted, report-refused, reported, same-progress, starts, timed, timeout-accepted, timeout-refused, unrolled, written}
+use Rattle.pass_file.proofs.Chain.{Gives, Progress, joined, left-from, none_left, report-accepted, report-refused, reported, same-progress, starts, timed, timeout-accepted, timeout-refused, unrolled, written}
 use Rattle.pass_file.proofs.list_chain.Goals as goal
-use Rattle.pass_file.proofs.list_chain.Goals.{After-next-next, Joined-kind-eq-PACKET, then-kind-eq-PACKET, else-kind-eq-PACKET+then-kind-eq-REPORT, then-judged-eq0, else-judged-eq0, else-kind-eq-PACKET+else-kind-eq-REPORT, then-number-eq0, else-number-eq0}
+use Rattle.pass_file.proofs.list_chain.Goals.{After-next-next, in-Packet, in-Report, in-Ok, in-Err, in-Timeout, in-Ok-timeout, in-Err-timeout}
 
--- the record's line is written, if it is a call, and what follows it is left
-passed : (c : Joined-kind-eq-PACKET) →
-    let bytes = c.record_at-bytes.result.now in
-    let j = c.if-kind-eq-PACKET in
-    Progress c.args.file.now c.args.out.now (cond (eqb (next bytes) 0) [] (chain_from c.args.file.now (record_count c.args.file.now) (next bytes)))
-    j.out j.sequences j.sizes j.sends j.remotes j.receives (link_of j.acked j.control) j.n j.at
+passed : (c : After-next-next) →
+    let bytes = c.of-record.result.bytes.now in
+    let j = c.match-kind in
+    Progress c.args.file.now c.args.out.now (cond (eqb (next bytes) 0) [] (chain_from c.args.file.now (record_count c.args.file.now) (next bytes))) j.out j.waiting (link_of j.acked j.control) j.at
 passed c =
-    let bytes = c.record_at-bytes.result.now in
-    let i = c.loop-sequences.invariant in
-    let b = c.record_at-bytes.ensures in
-    let is = c.kind-kind.ensures in
-    let p = unrolled (record_count c.args.file.now) c.loop-sequences.k b i.0 i.1 in
-    let y = good-in-range _ i.1.good in
-    elim c.if-kind-eq-PACKET.branch [
-      | then-kind-eq-PACKET w ↦
-          let e = w.wait-n.ensures in
-          same-progress w.out-is w.sequences-is w.sizes-is w.sends-is w.remotes-is w.receives-is (rw (w.acked-is, w.control-is)) w.n-is w.at-is
-          (joined b p (sym is ∙ w.if-kind-eq-PACKET.true) e.value e.sequences_after e.sizes_after e.sends_after e.remotes_after e.receives_after)
-      | else-kind-eq-PACKET+then-kind-eq-REPORT w ↦
-          let h = sym is ∙ w.if-kind-eq-REPORT.true in
-          let j = w.judge_report-judged in
-          let control = w.if-judged-eq0.control in
-          let gives : Gives (call (link_of c.loop-sequences.acked c.loop-sequences.control) (call_of bytes (take (c.loop-sequences.n - 0) c.loop-sequences.sequences) (take (c.loop-sequences.n - 0) c.loop-sequences.sizes) (take (c.loop-sequences.n - 0) c.loop-sequences.sends) (take (c.loop-sequences.n - 0) c.loop-sequences.remotes) (take (c.loop-sequences.n - 0) c.loop-sequences.receives))) j.result.number (link_of j.result.acked control) =
-          elim w.if-judged-eq0.branch [
-            | then-judged-eq0 v ↦ report-accepted bytes c.loop-sequences.sequences c.loop-sequences.sizes c.loop-sequences.sends c.loop-sequences.remotes c.loop-sequences.receives c.loop-sequences.n c.loop-sequences.acked c.loop-sequences.control y h w.probe-probe.ensures c.receive-now.ensures j.new.sends j.new.remotes j.new.receives j.ensures.judges_report v.if-judged-eq0.true v.current_estimate.ensures (v.control-is ∙ v.update-control.ensures)
-            | else-judged-eq0 v ↦ rw v.control-is (report-refused bytes c.loop-sequences.sequences c.loop-sequences.sizes c.loop-sequences.sends c.loop-sequences.remotes c.loop-sequences.receives c.loop-sequences.n c.loop-sequences.acked c.loop-sequences.control y h w.probe-probe.ensures c.receive-now.ensures j.new.sends j.new.remotes j.new.receives j.ensures.judges_report v.if-judged-eq0.false)
+    let bytes = c.of-record.result.bytes.now in
+    let i = c.loop-waiting.invariant in
+    let b = c.of-record.ensures in
+    let p = unrolled (record_count c.args.file.now) c.loop-waiting.k b i.on_chain i.progress in
+    let y = good-in-range _ i.progress.good in
+    let told : result_unwrap_or (kind_of (kind bytes)) Kind.Timeout ≡ c.unwrap_or-kind.result = rw (← c.kind.ensures) (sym c.unwrap_or-kind.ensures) in
+    elim c.match-kind.branch [
+      | in-Packet w ↦
+          let is = kind-packet (kind bytes) (told ∙ w.in-Packet.is) in
+          same-progress w.out-is w.waiting-is (rw (w.acked-is, w.control-is)) w.at-is (joined b p is w.push.ensures)
+      | in-Report w ↦
+          let is = kind-report (kind bytes) (told ∙ w.in-Report.is) in
+          let m = w.match-judge_report in
+          let j = w.judge_report.ensures in
+          let gives : Gives (call (link_of c.loop-waiting.acked c.loop-waiting.control) (call_of bytes c.loop-waiting.waiting)) m.number (link_of m.acked m.control) =
+          elim m.branch [
+            | in-Ok v ↦
+                rw (v.number-is, v.acked-is, v.control-is)
+                (report-accepted bytes c.loop-waiting.waiting c.loop-waiting.acked c.loop-waiting.control y is w.probe-probe.ensures c.receive-now.ensures j v.in-Ok.is v.current_estimate.ensures (rw (v.sends.ensures, v.remotes.ensures, v.receives.ensures) at v.update-control.ensures))
+            | in-Err v ↦
+                rw (v.number-is, v.acked-is, v.control-is, v.from-number.ensures)
+                (report-refused bytes c.loop-waiting.waiting c.loop-waiting.acked c.loop-waiting.control y is w.probe-probe.ensures c.receive-now.ensures j v.in-Err.is)
           ] in
-          same-progress w.out-is w.sequences-is w.sizes-is w.sends-is w.remotes-is w.receives-is (rw (w.acked-is, w.control-is)) w.n-is w.at-is
-          (reported b p h gives j.ensures.kept_lengths_2 (line-of c.loop-sequences.k j.result.number control w.last_estimate.ensures w.hypothesis.ensures w.poll_timeout.ensures) w.put_called-at.ensures.out_after w.put_called-at.ensures.value)
-      | else-kind-eq-PACKET+else-kind-eq-REPORT w ↦
-          let h : kind bytes ≡ report → ⊥ = λ q. w.if-kind-eq-REPORT.false (is ∙ q) in
-          let number = w.judge_timeout-number.result in
-          let control = w.if-number-eq0.control in
-          let gives : Gives (call (link_of c.loop-sequences.acked c.loop-sequences.control) (call_of bytes (take (c.loop-sequences.n - 0) c.loop-sequences.sequences) (take (c.loop-sequences.n - 0) c.loop-sequences.sizes) (take (c.loop-sequences.n - 0) c.loop-sequences.sends) (take (c.loop-sequences.n - 0) c.loop-sequences.remotes) (take (c.loop-sequences.n - 0) c.loop-sequences.receives))) number (link_of c.loop-sequences.acked control) =
-          elim w.if-number-eq0.branch [
-            | then-number-eq0 v ↦ timeout-accepted bytes c.loop-sequences.sequences c.loop-sequences.sizes c.loop-sequences.sends c.loop-sequences.remotes c.loop-sequences.receives c.loop-sequences.n c.loop-sequences.acked c.loop-sequences.control y h c.receive-now.ensures w.judge_timeout-number.ensures v.if-number-eq0.true v.current_estimate-then-number-eq0.ensures (v.control-is ∙ v.handle_timeout-control.ensures)
-            | else-number-eq0 v ↦ rw v.control-is (timeout-refused bytes c.loop-sequences.sequences c.loop-sequences.sizes c.loop-sequences.sends c.loop-sequences.remotes c.loop-sequences.receives c.loop-sequences.n c.loop-sequences.acked c.loop-sequences.control y h c.receive-now.ensures w.judge_timeout-number.ensures v.if-number-eq0.false)
+          same-progress w.out-is w.waiting-is (rw (w.acked-is, w.control-is)) w.at-is
+          (reported b p is gives (rw w.line_of.ensures at w.put-at.ensures.out_after) (rw w.line_of.ensures at w.put-at.ensures.value) w.clear.ensures)
+      | in-Timeout w ↦
+          let is = kind-other (kind bytes) (told ∙ w.in-Timeout.is) in
+          let m = w.match-timeout in
+          let gives : Gives (call (link_of c.loop-waiting.acked c.loop-waiting.control) (call_of bytes c.loop-waiting.waiting)) m.number (link_of c.loop-waiting.acked m.control) =
+          elim m.branch [
+            | in-Ok-timeout v ↦
+                rw (v.number-is, v.control-is)
+                (timeout-accepted bytes c.loop-waiting.waiting c.loop-waiting.acked c.loop-waiting.control y is.1 c.receive-now.ensures _ w.timeout.ensures v.in-Ok-timeout.is v.current_estimate-in-Ok-timeout.ensures v.handle_timeout-control.ensures)
+            | in-Err-timeout v ↦
+                rw (v.number-is, v.control-is, v.from-number-in-Err-timeout.ensures)
+                (timeout-refused bytes c.loop-waiting.waiting c.loop-waiting.acked c.loop-waiting.control y is.1 c.receive-now.ensures _ w.timeout.ensures v.in-Err-timeout.is)
           ] in
-          let at = w.put_called-at-else-kind-eq-REPORT.ensures in
-          same-progress w.out-is w.sequences-is w.sizes-is w.sends-is w.remotes-is w.receives-is (rw (w.acked-is, w.control-is)) w.n-is w.at-is
-          (timed b p (λ q. w.if-kind-eq-PACKET.false (is ∙ q)) h gives (line-of c.loop-sequences.k number control w.last_estimate-else-kind-eq-REPORT.ensures w.hypothesis-else-kind-eq-REPORT.ensures w.poll_timeout-else-kind-eq-REPORT.ensures) at.out_after at.value)
+          let put = w.put-at-in-Timeout.ensures in
+          let line = w.line_of-in-Timeout.ensures in
+          same-progress w.out-is w.waiting-is (rw (w.acked-is, w.control-is)) w.at-is (timed b p is.0 is.1 gives (rw line at put.out_after) (rw line at put.value))
     ]
 
 -- ---- the record that follows, where one does
-after : (c : After-next-next) → Onward c.args.file.now (record_count c.args.file.now) c.loop-sequences.k c.next-next.result
+after : (c : After-next-next) → Onward c.args.file.now (record_count c.args.file.now) c.loop-waiting.k c.next-next.result
 after c =
-    subst (Onward c.args.file.now (record_count c.args.file.now) c.loop-sequences.k) (ap next (sym c.record_at-bytes.ensures) ∙ sym c.next-next.ensures) (onward-linked _ _ _ c.loop-sequences.invariant.0)
+    subst (Onward c.args.file.now (record_count c.args.file.now) c.loop-waiting.k) (ap next (sym c.of-record.ensures) ∙ sym c.next-next.ensures)
+    (onward-linked _ _ _ c.loop-waiting.invariant.on_chain)
 
-pub loop-sequences-init : goal.loop-sequences-init
-loop-sequences-init c =
-    let p = c.requires.on_chain in
-    (p.0, starts p.1 c.requires.kept_lengths p.2)
-
--- ---- what a report's packets need
-pub judge_report-judged-requires : goal.judge_report-judged-requires
-judge_report-judged-requires c =
-    let p = c.loop-sequences.invariant.1.kept in
-    record { n_le_most_waiting = p.few; kept_lengths = (p.sequences-kept.room, p.sizes-kept.room, p.sends-kept.room, p.remotes-kept.room, p.receives-kept.room) }
-
-pub slice_bounds-update-end : goal.slice_bounds-update-end
-slice_bounds-update-end c = omega (arith, c.judge_report-judged.ensures.kept_lengths_2.2, c.loop-sequences.invariant.1.kept.few)
-
-pub slice_bounds-update-end-then-judged-eq0 : goal.slice_bounds-update-end-then-judged-eq0
-slice_bounds-update-end-then-judged-eq0 c = omega (arith, c.judge_report-judged.ensures.kept_lengths_2.3, c.loop-sequences.invariant.1.kept.few)
-
-pub slice_bounds-update-end-then-judged-eq0-2 : goal.slice_bounds-update-end-then-judged-eq0-2
-slice_bounds-update-end-then-judged-eq0-2 c = omega (arith, c.judge_report-judged.ensures.kept_lengths_2.4, c.loop-sequences.invariant.1.kept.few)
+pub loop-waiting-init : goal.loop-waiting-init
+loop-waiting-init c = record { on_chain = c.requires.on_chain; progress = starts c.requires.room c.requires.start.0 c.requires.start.1 }
 
 pub returns-then-next-eq0 : goal.returns-then-next-eq0
-returns-then-next-eq0 c = written (none_left _ _ c.next-next.ensures (passed (goal.at.returns-then-next-eq0 c).Joined-kind-eq-PACKET) c.if-next-eq0.true)
+returns-then-next-eq0 c = written (none_left _ _ c.next-next.ensures (passed (goal.at.returns-then-next-eq0 c).After-next-next) c.if-next-eq0.true)
 
-pub loop-sequences-smaller : goal.loop-sequences-smaller
-loop-sequences-smaller c =
-    let n = after (goal.at.loop-sequences-smaller c).After-next-next in
+pub loop-waiting-smaller : goal.loop-waiting-smaller
+loop-waiting-smaller c =
+    let n = after (goal.at.loop-waiting-smaller c).After-next-next in
     omega (arith, n.above c.if-next-eq0.false, (n.on_chain c.if-next-eq0.false).within)
 
-pub loop-sequences-preserved : goal.loop-sequences-preserved
-loop-sequences-preserved c = (
-  (after (goal.at.loop-sequences-preserved c).After-next-next).on_chain c.if-next-eq0.false,
-  left-from _ _ c.next-next.ensures (passed (goal.at.loop-sequences-preserved c).Joined-kind-eq-PACKET) c.if-next-eq0.false,
-)
+pub loop-waiting-preserved : goal.loop-waiting-preserved
+loop-waiting-preserved c = record {
+  on_chain = (after (goal.at.loop-waiting-preserved c).After-next-next).on_chain c.if-next-eq0.false;
+  progress = left-from _ _ c.next-next.ensures (passed (goal.at.loop-waiting-preserved c).After-next-next) c.if-next-eq0.false;
+}

@@ -1,7 +1,6 @@
 -- `status_chunk::delta_bytes` meets its contract: by the kind of chunk.
-use mathlib.Core.Path.{◌∙◌}
-use native.Mathlib.Omega.{arith}
-use Rattle.status_chunk.specs.Laws.{take-symbols, run-bytes, count-one-bit}
+use Rattle.std.proofs.Common.{◌∙◌, arith}
+use Rattle.status_chunk.specs.Laws.{take-symbols, run-bytes, count-one-bit, count-two-bit}
 use Rattle.status_chunk.proofs.delta_bytes.Goals as goal
 
 pub returns-then-chunk-lt-STATUS_VECTOR : goal.returns-then-chunk-lt-STATUS_VECTOR
@@ -12,6 +11,9 @@ ones-requires c = (omega arith, (omega arith, omega (arith, count-one-bit c.args
 
 pub returns-then-chunk-lt-TWO_BIT_VECTOR : goal.returns-then-chunk-lt-TWO_BIT_VECTOR
 returns-then-chunk-lt-TWO_BIT_VECTOR c = c.ones.ensures ∙ simp (take-symbols, c.covered-all.ensures)
+
+pub two_bit_bytes-requires : goal.two_bit_bytes-requires
+two_bit_bytes-requires c = (omega arith, omega (arith, count-two-bit c.args.chunk (omega arith) (omega arith)))
 
 pub returns : goal.returns
 returns c = c.two_bit_bytes.ensures ∙ simp (take-symbols, c.covered-all.ensures)

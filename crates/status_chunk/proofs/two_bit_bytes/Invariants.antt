@@ -1,10 +1,8 @@
-use Prim.Native.Nat.{◌+◌, ◌*◌, ◌-◌, ◌≤◌}
-use mathlib.Core.Path.{◌≡◌}
+use Rattle.std.proofs.Common.{◌≡◌, ◌+◌, ◌*◌, ◌-◌, ◌≤◌}
 use Rattle.status_chunk.specs.Chunk.{symbols_from, delta_bytes}
+use Rattle.status_chunk.specs.Laws.{rest_of}
 use Rattle.status_chunk.proofs.two_bit_bytes.Given as goal
 
-abbrev pub invariant-loop-i : goal.invariant-loop-i
-invariant-loop-i l = (l.i ≤ l.n) × ((l.bytes ≤ 3 * l.i) × (l.bytes + delta_bytes (symbols_from l.chunk l.i (l.n - l.i)) ≡ delta_bytes (symbols_from l.chunk 0 l.n)))
-
-abbrev pub decreases-loop-i : goal.decreases-loop-i
-decreases-loop-i l = l.n - l.i
+abbrev pub invariant-loop : goal.invariant-loop
+invariant-loop l =
+    (l.rest ≡ rest_of l.chunk l.n l.counter) × (l.bytes ≤ 3 * l.counter) × (l.bytes + delta_bytes (symbols_from l.chunk 0 (l.n - l.counter)) ≡ delta_bytes (symbols_from l.chunk 0 l.n))

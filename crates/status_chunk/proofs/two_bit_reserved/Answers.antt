@@ -1,20 +1,45 @@
 -- `status_chunk::two_bit_reserved` meets its contract. The loop's invariant: the symbols left have a reserved one where all have one.
-use mathlib.Core.Path.{◌≡◌, sym, ◌∙◌}
-use native.Mathlib.Omega.{arith}
-use Rattle.status_chunk.specs.Chunk.{symbol, any_reserved}
-use Rattle.status_chunk.specs.Laws.{two-bit-symbol, reserved-turn, reserved-met, symbols-end}
+use Rattle.std.proofs.Common.{◌≡◌, ◌+◌, ◌-◌, ◌%◌, ◌≤◌, Bool, true, false, ltb, ltb-true, ltb-false, refl, sym, ap, ◌∙◌, arith, ℕ}
+use Rattle.status_chunk.specs.Chunk.{reserved, two_bit_vector, symbols_from, any_reserved}
+use Rattle.status_chunk.specs.Laws.{rest_of, rest-symbol, rest-none, rest-turn, reserved-turn, reserved-met}
 use Rattle.status_chunk.proofs.two_bit_reserved.Goals as goal
-use Rattle.status_chunk.proofs.two_bit_reserved.Goals.{After-two_bit}
 
-is-symbol : (c : After-two_bit) → c.two_bit.result ≡ symbol c.args.chunk c.loop-i.i
-is-symbol c = c.two_bit.ensures ∙ sym (two-bit-symbol _ _ (omega arith))
+module _ (chunk n i : ℕ) (whole : Bool) (v : two_bit_vector ≤ chunk) (few : n ≤ 7) (e : any_reserved (symbols_from chunk 0 (n - i)) ≡ whole) where
+  -- a symbol that is reserved
+  met : rest_of chunk n i % 4 ≡ reserved → true ≡ whole
+  met s = go (ltb i n) refl
+    where
+      go : (t : Bool) → ltb i n ≡ t → true ≡ whole
+      go true t =
+          let h = ltb-true i n t in
+          reserved-met chunk n i whole h e (sym (rest-symbol chunk n i few h v) ∙ s)
+      go false t = absurd (omega (arith, rest-none chunk n i few (ltb-false i n t)))
 
-pub returns-then-two_bit-eq-RESERVED : goal.returns-then-two_bit-eq-RESERVED
-returns-then-two_bit-eq-RESERVED c = reserved-met _ _ _ _ c.loop-i-test.true (sym (is-symbol (goal.at.returns-then-two_bit-eq-RESERVED c).After-two_bit) ∙ c.if-two_bit-eq-RESERVED.true) c.loop-i.invariant.1
+  -- another, or zeros in its place
+  turn : (rest_of chunk n i % 4 ≡ reserved → ⊥) → any_reserved (symbols_from chunk 0 (n - (i + 1))) ≡ whole
+  turn s = go (ltb i n) refl
+    where
+      go : (t : Bool) → ltb i n ≡ t → any_reserved (symbols_from chunk 0 (n - (i + 1))) ≡ whole
+      go true t =
+          let h = ltb-true i n t in
+          reserved-turn chunk n i whole h e (λ q. s (rest-symbol chunk n i few h v ∙ q))
+      go false t =
+          let h = ltb-false i n t in
+          let z : n - i ≡ 0 = omega arith in
+          let y : n - (i + 1) ≡ 0 = omega arith in
+          rw y (rw z at e)
 
-pub loop-i-preserved : goal.loop-i-preserved
-loop-i-preserved c = (omega arith, reserved-turn _ _ _ _ c.loop-i-test.true (λ e. absurd (c.if-two_bit-eq-RESERVED.false (is-symbol (goal.at.loop-i-preserved c).After-two_bit ∙ e))) c.loop-i.invariant.1)
+pub returns-then-rest : goal.returns-then-rest
+returns-then-rest c = met _ _ _ _ (omega arith) (omega arith) c.loop.invariant.1 (sym (ap (λ (k : ℕ). k % 4) c.loop.invariant.0) ∙ c.if-rest.true)
+
+pub loop-preserved : goal.loop-preserved
+loop-preserved c = (
+  rw c.loop.invariant.0 (rest-turn _ _ _ (omega arith)),
+  turn _ _ _ _ (omega arith) (omega arith) c.loop.invariant.1 (λ e. absurd (c.if-rest.false (ap (λ (k : ℕ). k % 4) c.loop.invariant.0 ∙ e))),
+)
 
 pub returns : goal.returns
-unfolding any_reserved
-returns c = rw (symbols-end _ _ _ c.loop-i-test.false) at c.loop-i.invariant.1
+unfolding any_reserved symbols_from
+returns c =
+    let z : c.args.n - c.loop.counter ≡ 0 = omega arith in
+    rw z at c.loop.invariant.1

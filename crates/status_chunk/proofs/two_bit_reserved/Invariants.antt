@@ -1,10 +1,7 @@
-use Prim.Native.Nat.{◌-◌, ◌≤◌}
-use mathlib.Core.Path.{◌≡◌}
+use Rattle.std.proofs.Common.{◌≡◌, ◌-◌}
 use Rattle.status_chunk.specs.Chunk.{symbols_from, any_reserved}
+use Rattle.status_chunk.specs.Laws.{rest_of}
 use Rattle.status_chunk.proofs.two_bit_reserved.Given as goal
 
-abbrev pub invariant-loop-i : goal.invariant-loop-i
-invariant-loop-i l = (l.i ≤ l.n) × (any_reserved (symbols_from l.chunk l.i (l.n - l.i)) ≡ any_reserved (symbols_from l.chunk 0 l.n))
-
-abbrev pub decreases-loop-i : goal.decreases-loop-i
-decreases-loop-i l = l.n - l.i
+abbrev pub invariant-loop : goal.invariant-loop
+invariant-loop l = (l.rest ≡ rest_of l.chunk l.n l.counter) × (any_reserved (symbols_from l.chunk 0 (l.n - l.counter)) ≡ any_reserved (symbols_from l.chunk 0 l.n))

@@ -1,35 +1,34 @@
 -- `twcc::judge_with_deltas` meets its contract: a law a case, by what the chunks say.
-use mathlib.Core.Path.{◌≡◌, sym, ap, ◌∙◌}
+use Rattle.std.proofs.Common.{◌≡◌, sym, ap, ◌∙◌}
+use Rattle.std.specs.Prelude.{Result}
+use Rattle.std.proofs.lemmas.Result.{err_from_is_err_and}
 use Rattle.twcc.specs.Judging.{judge_with_deltas, judgement_by, judged-short, judged-none, judged-by}
 use Rattle.twcc.specs.declared.Header.{Header}
-use Rattle.twcc.specs.declared.Chunks.{Chunks}
+use Rattle.twcc.specs.declared.Deltas.{Deltas}
+use Rattle.twcc.specs.declared.Refusal.{Refusal}
 use Rattle.twcc.proofs.judge_with_deltas.Goals as goal
 use Rattle.twcc.proofs.judge_with_deltas.Goals.{After-judge_chunks}
 
 -- by what the chunks say
 chunks-told :
-    (c : After-judge_chunks) (t : Chunks) → c.judge_chunks.result ≡ t →
-    judgement_by c.args.message.now c.read_header-told.result t ≡ judge_with_deltas c.args.message.now
-chunks-told c t = judged-by _ _ _ t c.read_header-told.ensures c.if-message-lt-HEADER_BYTES.false c.if-told-eq0.false c.judge_chunks.ensures
+    (c : After-judge_chunks) (t : Result Deltas Refusal) → c.judge_chunks.result ≡ t →
+    judgement_by c.args.message.now c.read_header-header.result t ≡ judge_with_deltas c.args.message.now
+chunks-told c t = judged-by _ _ _ t c.read_header-header.ensures c.if-message-lt-HEADER_BYTES.false c.if-header-eq0.false c.judge_chunks.ensures
 
 pub returns-then-message-lt-HEADER_BYTES : goal.returns-then-message-lt-HEADER_BYTES
-returns-then-message-lt-HEADER_BYTES c = c.refused.ensures ∙ judged-short _ c.if-message-lt-HEADER_BYTES.true
+returns-then-message-lt-HEADER_BYTES c = judged-short _ c.if-message-lt-HEADER_BYTES.true
 
-pub returns-then-told-eq0 : goal.returns-then-told-eq0
-returns-then-told-eq0 c =
-    c.refused-then-told-eq0.ensures
-    ∙ judged-none _ c.if-message-lt-HEADER_BYTES.false (sym (ap (λ (h : Header). h.status_count) c.read_header-told.ensures) ∙ c.if-told-eq0.true)
+pub returns-then-header-eq0 : goal.returns-then-header-eq0
+returns-then-header-eq0 c =
+    judged-none _ c.if-message-lt-HEADER_BYTES.false (sym (ap (λ (h : Header). h.status_count) c.read_header-header.ensures) ∙ c.if-header-eq0.true)
+
+pub returns-in_err-deltas : goal.returns-in_err-deltas
+returns-in_err-deltas c =
+    let p = err_from_is_err_and c.from_residual.result c.from_residual.ensures.1 in
+    rw (p.1, p.2) (chunks-told (goal.at.returns-in_err-deltas c).After-judge_chunks _ c.in_err-deltas.was)
 
 pub returns-then-cut_short : goal.returns-then-cut_short
-returns-then-cut_short c =
-    c.refused-then-cut_short.ensures
-    ∙ (rw (sym c.cut_short.ensures ∙ c.if-cut_short.true) at (chunks-told (goal.at.returns-then-cut_short c).After-judge_chunks _ c.in-End.is))
+returns-then-cut_short c = rw (sym c.cut_short.ensures ∙ c.if-cut_short.true) at (chunks-told (goal.at.returns-then-cut_short c).After-judge_chunks _ c.in_ok-deltas.was)
 
-pub returns-else-cut_short : goal.returns-else-cut_short
-returns-else-cut_short c = rw (sym c.cut_short.ensures ∙ c.if-cut_short.false) at (chunks-told (goal.at.returns-else-cut_short c).After-judge_chunks _ c.in-End.is)
-
-pub returns-in-CutShort : goal.returns-in-CutShort
-returns-in-CutShort c = c.refused-in-CutShort.ensures ∙ chunks-told (goal.at.returns-in-CutShort c).After-judge_chunks _ c.in-CutShort.is
-
-pub returns-in-Reserved : goal.returns-in-Reserved
-returns-in-Reserved c = c.refused-in-Reserved.ensures ∙ chunks-told (goal.at.returns-in-Reserved c).After-judge_chunks _ c.in-Reserved.is
+pub returns : goal.returns
+returns c = rw (sym c.cut_short.ensures ∙ c.if-cut_short.false) at (chunks-told (goal.at.returns c).After-judge_chunks _ c.in_ok-deltas.was)

@@ -13,4 +13,4 @@ overflow_mul-result c = omega (arith, c.wait.ensures, wait-le c.args.self)
 
 pub returns : goal.returns
 unfolding trendline_hypothesis_valid
-returns c = simp (← c.wait.ensures, ← c.saturating_duration_since.ensures, c.in-Some.is)
+returns c = simp (← c.wait.ensures, ← c.saturating_sub.ensures, c.in-Some.is)

@@ -8,4 +8,4 @@ returns-then-as_f64-increase_limit c = simp (← c.with_estimate.ensures, c.if-a
 
 pub returns : goal.returns
 unfolding increase
-returns c = simp (← c.update_estimate.ensures, ← c.min-new_estimate.ensures, ← c.min.ensures, ← c.raised.ensures, ← c.with_average-next.ensures, ← c.reset_above.ensures, ← c.saturating_duration_since-since.ensures, ← c.unwrap_or-last.ensures, c.if-as_f64-increase_limit.false, ← c.as_f64.ensures, ← c.as_f64-observed.ensures)
+returns c = simp (← c.update_estimate.ensures, ← c.min-new_estimate.ensures, ← c.min.ensures, ← c.raised.ensures, ← c.with_average-next.ensures, ← c.reset_above.ensures, ← c.saturating_sub-since.ensures, ← c.unwrap_or-last.ensures, c.if-as_f64-increase_limit.false, ← c.as_f64.ensures, ← c.as_f64-observed.ensures)
