@@ -57,7 +57,6 @@ impl Bitrate {
     {
         float::within(min.0, max.0, self.0)
     }
-
 }
 
 impl Mul<f64> for Bitrate {

@@ -13,7 +13,7 @@ use questions::Report;
 use std::io;
 use std::num::wrapping_sub_usize;
 use time::TimeDelta;
-use trendline::{TrendlineEstimator};
+use trendline::TrendlineEstimator;
 
 fn delta_tag(d: TimeDelta) -> u64 {
     match d {

@@ -2,7 +2,7 @@
 // size 0 are refused; packets of size 1 are taken. Either way the estimate recovers. The Rust, fed the empty packets, stays at 60,000 bps.
 #![tactic(auto)]
 
-use bandwidth::{Bitrate};
+use bandwidth::Bitrate;
 use link::{Called, Opening};
 use link_state::Link;
 use questions::Report;
