@@ -53,17 +53,16 @@ use Rattle.link_state.specs.State.{
   average_within,
   control_in,
   delays_in,
-  duration_in,
   group_in,
   groups_in,
   history_in,
   in_range,
-  instant_in,
   most30,
   most31,
   most_ns,
   most_overuse,
   most_time,
+  ns_in,
   overuse_in,
   overuse_time_in,
   rate_control_in,
@@ -94,11 +93,11 @@ eq_refl (inf false) o = refl
 eq_refl (fin true m e) o = rw (eq-eqb (m * up e * down e) (m * up e * down e) refl)
 eq_refl (fin false m e) o = rw (eq-eqb (m * up e * down e) (m * up e * down e) refl)
 
-instant-in : (o : Option ℕ) → InstantAtMost most_instant o → instant_in o ≡ true
+instant-in : (o : Option ℕ) → InstantAtMost most_instant o → ns_in o ≡ true
 instant-in None h = refl
 instant-in (Some t) h = le-leb t (10 ^ 18 + 10 ^ 9) (omega arith)
 
-duration-in : (o : Option ℕ) → DurationAtMost most_instant o → duration_in o ≡ true
+duration-in : (o : Option ℕ) → DurationAtMost most_instant o → ns_in o ≡ true
 duration-in None h = refl
 duration-in (Some d) h = le-leb d (10 ^ 18 + 10 ^ 9) (omega arith)
 
@@ -154,7 +153,7 @@ group-in None h = refl
 group-in (Some g) h =
     rw (le-leb g.first_local_send_time most_ns (omega (arith, h.first-send)), le-leb g.first_remote_recv_time most_ns (omega (arith, h.first-remote)), le-leb g.last_local_send_time most_ns (omega (arith, h.last-send)), le-leb g.last_remote_recv_time most_ns (omega (arith, h.last-remote)))
 
-origin-in : (t : Option ℕ) → unwrap_or t 0 ≤ most_instant → instant_in t ≡ true
+origin-in : (t : Option ℕ) → unwrap_or t 0 ≤ most_instant → ns_in t ≡ true
 origin-in None h = refl
 origin-in (Some t) h = instant-in (Some t) h
 
