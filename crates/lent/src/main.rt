@@ -6,8 +6,6 @@
 use bandwidth::Bitrate;
 use link::Opening;
 use std::io;
-use std::io::Read;
-use std::num::{wrapping_add_u64, wrapping_sub_u64};
 
 fn opened() -> [u64; 100] {
     if let Ok(opening) = Opening::judge(Bitrate(1_000_000.0), 500_000_000, 150_000_000) {
@@ -41,67 +39,6 @@ fn full() -> [u64; 100] {
     words
 }
 
-fn wide(x: u8) -> u64 {
-    x as u64
-}
-
-// The next byte, or 256 at the end.
-fn next(input: &mut impl Read) -> io::Result<u64> {
-    let mut byte = [0u8; 1];
-    if input.read(&mut byte)? < 1 {
-        return Ok(256);
-    }
-    Ok(wide(byte[0]))
-}
-
-// The digit that a byte stands for, or 16.
-fn digit(c: u64) -> u64 {
-    if (48 <= c) & (c <= 57) {
-        return wrapping_sub_u64(c, 48);
-    }
-    if (97 <= c) & (c <= 102) {
-        return wrapping_sub_u64(c, 87);
-    }
-    16
-}
-
-// A number in hexadecimal, and the byte after it.
-#[derive(Clone, Copy)]
-struct Number {
-    value: u64,
-    end: u64,
-}
-
-fn read_number(input: &mut impl Read) -> io::Result<Number> {
-    let mut value = 0u64;
-    for _ in 0..17u64 {
-        let c = next(input)?;
-        let d = digit(c);
-        if d == 16 {
-            return Ok(Number { value, end: c });
-        }
-        value = wrapping_add_u64(value % 0x1000_0000_0000_0000 * 16, d);
-    }
-    Ok(Number { value, end: 256 })
-}
-
-fn write(rt: &impl Print, c: u64) -> io::Result<()> {
-    let byte = [(c % 256) as u8];
-    rt.write_all(&byte)
-}
-
-// Prints a name; returns the byte after it, a colon if there is a line.
-fn name(rt: &impl Print, input: &mut impl Read) -> io::Result<u64> {
-    for _ in 0..1000u64 {
-        let c = next(input)?;
-        if (c == 58) | (c == 256) {
-            return Ok(c);
-        }
-        write(rt, c)?;
-    }
-    Ok(256)
-}
-
 fn show(rt: &impl Print, words: &[u64; 100]) -> io::Result<()> {
     if link_words::formed(words) {
         let called = link::timeout(link_words::load(words), 1_000_000_000);
@@ -111,45 +48,34 @@ fn show(rt: &impl Print, words: &[u64; 100]) -> io::Result<()> {
     print!(rt; " -")
 }
 
-// Asks a case; returns the byte after it, a space if there is another.
-fn case(rt: &impl Print, input: &mut impl Read, link: [u64; 100]) -> io::Result<u64> {
-    let mut words = link;
-    let mut end = 256;
-    for _ in 0..100u64 {
-        let at = read_number(input)?;
-        let word = read_number(input)?;
-        // Two decimal digits, which were read as hexadecimal ones.
-        let i = (at.value / 16 % 10 * 10 + at.value % 16 % 10) as usize;
-        words[i] = word.value;
-        end = word.end;
-        if end != 44 {
-            break;
+// The words with one of them set, if the text sets one.
+fn set(mut words: [u64; 100], text: &str) -> [u64; 100] {
+    if let Some((at, word)) = text.split_once('=') {
+        if let (Ok(at), Ok(word)) = (at.parse::<usize>(), u64::from_str_radix(word, 16)) {
+            if let Some(place) = words.get_mut(at) {
+                *place = word;
+            }
         }
     }
-    show(rt, &words)?;
-    Ok(end)
+    words
 }
 
-fn cases(rt: &impl Print, input: &mut impl Read, link: [u64; 100]) -> io::Result<()> {
-    for _ in 0..1000u64 {
-        if case(rt, input, link)? != 32 {
-            break;
-        }
+// Asks each case of a line.
+fn ask(rt: &impl Print, words: [u64; 100], cases: &str) -> io::Result<()> {
+    for case in cases.split(' ') {
+        show(rt, &case.split(',').fold(words, set))?;
     }
     Ok(())
 }
 
 fn main(rt: HostRuntime) -> io::Result<()> {
-    let mut input = rt.reader();
-    let link = full();
-    for _ in 0..1000u64 {
-        if name(&rt, &mut input)? != 58 {
-            break;
+    let words = full();
+    for line in rt.lines(rt.alloc()) {
+        if let Some((name, cases)) = line?.split_once(": ") {
+            print!(rt; "{name}:")?;
+            ask(&rt, words, cases)?;
+            println!(rt)?;
         }
-        write(&rt, 58)?;
-        let _ = next(&mut input)?;
-        cases(&rt, &mut input, link)?;
-        write(&rt, 10)?;
     }
     Ok(())
 }

@@ -42,13 +42,10 @@ fn ns_in(ns: Option<u64>) -> bool
     ns.is_none_or(|ns| ns <= MOST_NS)
 }
 
-#[tactic(auto, unfolding(crate::specs::State::sum_in))]
 fn sum_in(sum: DataSize, elapsed: u64) -> bool
     ensures { result ≡ State.sum_in sum elapsed }
 {
-    let below = sum < DataSize::ZERO;
-    let some = DataSize::ZERO < sum;
-    !below & questions::bytes_in(sum) & (some | (elapsed == 0))
+    !(sum < DataSize::ZERO) & questions::bytes_in(sum) & ((DataSize::ZERO < sum) | (elapsed == 0))
 }
 
 fn average_within(most: f64, average: Option<f64>) -> bool
@@ -150,10 +147,8 @@ fn overuse_time_in(time: TimeDelta) -> bool
     ensures { result ≡ State.overuse_time_in time }
 {
     match time {
-        TimeDelta::NegativeInfinity => false,
-        TimeDelta::Negative(ns) => ns <= MOST_OVERUSE,
-        TimeDelta::Positive(ns) => ns <= MOST_OVERUSE,
-        TimeDelta::PositiveInfinity => false,
+        TimeDelta::Negative(ns) | TimeDelta::Positive(ns) => ns <= MOST_OVERUSE,
+        TimeDelta::NegativeInfinity | TimeDelta::PositiveInfinity => false,
     }
 }
 

@@ -12,7 +12,6 @@ use Rattle.trendline.specs.declared.TrendlineEstimator.{TrendlineEstimator}
 use Rattle.control.specs.declared.DelayController.{DelayController}
 use Rattle.link_state.specs.Laws.{Sized}
 use Rattle.link_state.specs.declared.Link.{Link}
-use Rattle.std.specs.Prelude.{unwrap_or}
 use Rattle.link_words.specs.LinkWords.{
   acked_words,
   groups_words,
@@ -23,7 +22,7 @@ use Rattle.link_words.specs.LinkWords.{
   rate_control_words,
   round_trip_words,
   control_words,
-  tag,
+  option_words,
   to_words,
 }
 
@@ -66,7 +65,7 @@ module _ (h : History) (sized : Sized h) where
 
 module _ (t : TrendlineEstimator) (sized : Sized t.history) where
   abbrev front : List ℕ
-  front = tag t.zero_time ∷ unwrap_or t.zero_time 0 ∷ history_words t.history
+  front = option_words t.zero_time ++ history_words t.history
 
   abbrev after : List ℕ
   after = overuse_words t.overuse t.last_threshold_update t.hypothesis

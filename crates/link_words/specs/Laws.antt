@@ -2,7 +2,7 @@
 use Rattle.trendline.specs.declared.Overuse.{Overuse}
 use Rattle.arrival_group.specs.declared.ArrivalGroup.{ArrivalGroup}
 use Rattle.bandwidth.specs.declared.Bitrate.{Bitrate}
-use Rattle.std.specs.Prelude.{ℕ, zero, suc, ◌^◌, ◌<◌, ◌≡◌, Bool, ◌&&◌, ◌||◌, T, eqb, length, Float, Option, Some, None, unwrap_or, ◌+◌}
+use Rattle.std.specs.Prelude.{ℕ, zero, suc, ◌^◌, ◌<◌, ◌≡◌, Bool, ◌&&◌, ◌||◌, T, eqb, length, Float, Option, Some, None, unwrap_or, option_map, ◌+◌}
 use Rattle.std.proofs.Common.{arith, ap, subst, ◌∙◌, length-set, SFits}
 use Rattle.std.proofs.Math.Path.{refl, ap₂}
 use Rattle.std.proofs.Math.Bool.{true, false}
@@ -30,7 +30,7 @@ use Rattle.control.specs.Control.{with_rate}
 use Rattle.control.specs.declared.DelayController.{DelayController}
 use Rattle.link_state.specs.Laws.{Sized}
 use Rattle.link_state.specs.declared.Link.{Link}
-use Rattle.link_words.specs.LinkWords.{acked, acked_words, average_words, bits, control, control_words, delays, delays_words, floats, formed, group, group_words, groups, groups_words, history, history_words, hypothesis, hypothesis_tag, moving_average, of_words, option, overuse_values, overuse_words, rate_control, rate_control_words, round_trip_words, state, state_tag, tag, time_delta, time_ns, time_tag, timeout_words, to_words, trendline, trendline_words}
+use Rattle.link_words.specs.LinkWords.{acked, acked_words, average_words, control, control_words, delays, delays_words, floats, formed, group, group_words, groups, groups_words, history, history_words, hypothesis, hypothesis_tag, moving_average, of_words, option, overuse_values, overuse_words, rate_bits, rate_control, rate_control_words, round_trip_words, state, state_tag, tag, time_delta, time_ns, time_tag, timeout_words, to_words, trendline, trendline_words}
 
 -- ---- values of the types: a float is one of binary64, a size an i64, and arrays hold 20. Every link of the code is so.
 abbrev pub Held : Float → Type 0
@@ -86,7 +86,7 @@ option-back : {A : Type 0} (o : Option A) (d : A) → option (tag o) (unwrap_or 
 option-back None d = refl
 option-back (Some x) d = refl
 
-bitrate-back : (r : Option Bitrate) → RateHeld r → option (tag r) (record { 0 = of_bits binary64 (bits (λ r. r.0) r) }) ≡ r
+bitrate-back : (r : Option Bitrate) → RateHeld r → option (tag (option_map rate_bits r)) (record { 0 = of_bits binary64 (unwrap_or (option_map rate_bits r) 0) }) ≡ r
 bitrate-back None h = refl
 bitrate-back (Some r) h = ap (λ (x : Float). Some (record { 0 = x })) (of_bits-to_bits binary64 r.0 h)
 
@@ -99,7 +99,7 @@ average-back m h =
       of_bits-to_bits binary64 m.std h.std,
     )
   where
-    value : (x : Option Float) → FloatHeld x → option (tag x) (of_bits binary64 (bits (λ y. y) x)) ≡ x
+    value : (x : Option Float) → FloatHeld x → option (tag (option_map (to_bits binary64) x)) (of_bits binary64 (unwrap_or (option_map (to_bits binary64) x) 0)) ≡ x
     value None h = refl
     value (Some x) h = ap Some (of_bits-to_bits binary64 x h)
 
@@ -306,7 +306,7 @@ module _ (l : Link) (f g : ℕ → Float) where
       let t = c.trendline_estimator in
       let r = c.rate_control in
       simp (
-        option-formed a.estimate,
+        option-formed (option_map rate_bits a.estimate),
         option-formed a.last_update,
         option-formed s.send_time_origin,
         option-formed s.previous_group,
@@ -317,11 +317,11 @@ module _ (l : Link) (f g : ℕ → Float) where
         option-formed t.last_threshold_update,
         hypothesis-formed t.hypothesis,
         state-formed r.state,
-        option-formed r.last_observed_bitrate,
-        option-formed r.averaged_observed_bitrate.average,
+        option-formed (option_map rate_bits r.last_observed_bitrate),
+        option-formed (option_map (to_bits binary64) r.averaged_observed_bitrate.average),
         option-formed r.last_estimate_update,
         option-formed r.last_rtt,
-        option-formed c.smoothed_rtt.average,
+        option-formed (option_map (to_bits binary64) c.smoothed_rtt.average),
         option-formed c.last_twcc_report,
       )
 
@@ -396,8 +396,8 @@ module _ (c : DelayController) (f : ℕ → ℕ) where
       let r = c.rate_control in
       rw (
         state-formed r.state,
-        option-formed r.last_observed_bitrate,
-        option-formed r.averaged_observed_bitrate.average,
+        option-formed (option_map rate_bits r.last_observed_bitrate),
+        option-formed (option_map (to_bits binary64) r.averaged_observed_bitrate.average),
         option-formed r.last_estimate_update,
         option-formed r.last_rtt,
       )

@@ -1,5 +1,6 @@
 -- A link as 100 words: the layout, from words to a link and back.
-use Rattle.std.specs.Prelude.{ℕ, zero, suc, Bool, cond, ◌&&◌, ◌||◌, List, [], ◌∷◌, ◌++◌, map, leb, eqb, get_or, set, Float, Option, Some, None, unwrap_or, ◌+◌}
+use Rattle.bandwidth.specs.declared.Bitrate.{Bitrate}
+use Rattle.std.specs.Prelude.{ℕ, zero, suc, Bool, cond, ◌&&◌, ◌||◌, List, [], ◌∷◌, ◌++◌, map, leb, eqb, get_or, set, Float, Option, Some, None, unwrap_or, option_map, ◌+◌}
 use Rattle.std.proofs.lemmas.List.Edits.{sets}
 use Rattle.std.specs.Float.{binary64}
 use Rattle.std.specs.Float.Ieee.{of_bits, to_bits}
@@ -170,14 +171,15 @@ formed w =
     && tag_within w 98 1
 
 -- ---- words of options and enums; 0 where there is nothing to store
+abbrev pub rate_bits : Bitrate → ℕ
+rate_bits r = to_bits binary64 r.0
+
 abbrev pub tag : {A : Type 0} → Option A → ℕ
 tag None = 0
 tag (Some x) = 1
 
--- the bits of the float that f gives of a value
-abbrev pub bits : {A : Type 0} → (A → Float) → Option A → ℕ
-bits f None = 0
-bits f (Some x) = to_bits binary64 (f x)
+abbrev pub option_words : Option ℕ → List ℕ
+option_words o = tag o ∷ unwrap_or o 0 ∷ []
 
 abbrev pub time_tag : TimeDelta → ℕ
 time_tag Delta.NegativeInfinity = 0
@@ -205,11 +207,8 @@ state_tag S.Decrease = 2
 abbrev pub average_words : MovingAverage → List ℕ
 average_words m =
     to_bits binary64 m.smoothing_factor
-    ∷ tag m.average
-    ∷ bits (λ x. x) m.average
-    ∷ to_bits binary64 m.variance
-    ∷ to_bits binary64 m.std
-    ∷ []
+    ∷ option_words (option_map (to_bits binary64) m.average)
+    ++ (to_bits binary64 m.variance ∷ to_bits binary64 m.std ∷ [])
 
 abbrev pub group_times : Option ArrivalGroup → ArrivalGroup
 group_times g = unwrap_or g (record { first_local_send_time = 0; first_remote_recv_time = 0; last_local_send_time = 0; last_remote_recv_time = 0 })
@@ -229,22 +228,12 @@ unfoldable pub acked_words : AckedBitrateEstimator → List ℕ
 acked_words a =
     a.initial_window
     ∷ a.window
-    ∷ tag a.estimate
-    ∷ bits (λ r. r.0) a.estimate
-    ∷ to_bits binary64 a.estimate_var
-    ∷ data_size_bits a.sum
-    ∷ a.current_window
-    ∷ tag a.last_update
-    ∷ unwrap_or a.last_update 0
-    ∷ []
+    ∷ option_words (option_map rate_bits a.estimate)
+    ++ (to_bits binary64 a.estimate_var ∷ data_size_bits a.sum ∷ a.current_window ∷ option_words a.last_update)
 
 -- words 10 to 21
 unfoldable pub groups_words : ArrivalGroupAccumulator → List ℕ
-groups_words a =
-    tag a.send_time_origin
-    ∷ unwrap_or a.send_time_origin 0
-    ∷ group_words a.previous_group
-    ++ group_words a.current_group
+groups_words a = option_words a.send_time_origin ++ group_words a.previous_group ++ group_words a.current_group
 
 -- words 24 to 64
 unfoldable pub history_words : History → List ℕ
@@ -270,15 +259,14 @@ overuse_words o last h =
     ∷ (overuse_values o).count
     ∷ time_tag (overuse_values o).time_overusing
     ∷ time_ns (overuse_values o).time_overusing
-    ∷ tag last
-    ∷ unwrap_or last 0
-    ∷ hypothesis_tag h
-    ∷ []
+    ∷ option_words last
+    ++ (hypothesis_tag h ∷ [])
 
 -- words 22 to 76
 unfoldable pub trendline_words : TrendlineEstimator → List ℕ
 trendline_words t =
-    (tag t.zero_time ∷ unwrap_or t.zero_time 0 ∷ history_words t.history)
+    option_words t.zero_time
+    ++ history_words t.history
     ++ delays_words t.delays
     ++ overuse_words t.overuse t.last_threshold_update t.hypothesis
 
@@ -289,14 +277,14 @@ rate_control_words c =
     ∷ to_bits binary64 c.estimated_bitrate.0
     ∷ to_bits binary64 c.min_bitrate.0
     ∷ to_bits binary64 c.max_bitrate.0
-    ∷ tag c.last_observed_bitrate
-    ∷ bits (λ r. r.0) c.last_observed_bitrate
-    ∷ average_words c.averaged_observed_bitrate
-    ++ (tag c.last_estimate_update ∷ unwrap_or c.last_estimate_update 0 ∷ tag c.last_rtt ∷ unwrap_or c.last_rtt 0 ∷ [])
+    ∷ option_words (option_map rate_bits c.last_observed_bitrate)
+    ++ average_words c.averaged_observed_bitrate
+    ++ option_words c.last_estimate_update
+    ++ option_words c.last_rtt
 
 -- words 92 to 99
 unfoldable pub round_trip_words : MovingAverage → ℕ → Option ℕ → List ℕ
-round_trip_words rtt next last = average_words rtt ++ (next ∷ tag last ∷ unwrap_or last 0 ∷ [])
+round_trip_words rtt next last = average_words rtt ++ (next ∷ option_words last)
 
 -- words 10 to 99
 unfoldable pub control_words : DelayController → List ℕ

@@ -14,7 +14,7 @@
 // variants from 0.
 #![tactic(auto)]
 
-ghost use Rattle.std.specs.Prelude.{◌≡◌, map, ◌+◌, ◌≤◌};
+ghost use Rattle.std.specs.Prelude.{◌≡◌, map, ◌+◌, ◌≤◌, unwrap_or};
 ghost use Rattle.std.specs.Float.{binary64};
 ghost use Rattle.std.specs.Float.Ieee.{to_bits};
 ghost use Rattle.std.proofs.lemmas.List.Edits.{sets};
@@ -242,32 +242,37 @@ pub fn formed(words: &[u64; 100]) -> bool
 }
 
 // ---- words of values
-fn tag<T: Copy>(value: Option<T>) -> u64
-    ensures { result ≡ Words.tag value }
-{
-    value.is_some() as u64
-}
-
-fn time_tag(time: TimeDelta) -> u64
-    ensures { result ≡ Words.time_tag time }
+fn time_parts(time: TimeDelta) -> (u64, u64)
+    ensures tag { result.0 ≡ Words.time_tag time }
+    ensures ns { result.1 ≡ Words.time_ns time }
 {
     match time {
-        TimeDelta::NegativeInfinity => 0,
-        TimeDelta::Negative(_) => 1,
-        TimeDelta::Positive(_) => 2,
-        TimeDelta::PositiveInfinity => 3,
+        TimeDelta::NegativeInfinity => (0, 0),
+        TimeDelta::Negative(ns) => (1, ns),
+        TimeDelta::Positive(ns) => (2, ns),
+        TimeDelta::PositiveInfinity => (3, 0),
     }
 }
 
-fn time_ns(time: TimeDelta) -> u64
-    ensures { result ≡ Words.time_ns time }
+// An option's tag and value, or `absent` in the value's place.
+fn parts<T: Copy>(option: Option<T>, absent: T) -> (u64, T)
+    ensures tag { result.0 ≡ Words.tag option }
+    ensures value { result.1 ≡ unwrap_or option absent }
 {
-    match time {
-        TimeDelta::NegativeInfinity => 0,
-        TimeDelta::Negative(ns) => ns,
-        TimeDelta::Positive(ns) => ns,
-        TimeDelta::PositiveInfinity => 0,
+    match option {
+        None => (0, absent),
+        Some(x) => (1, x),
     }
+}
+
+// An option's two words at `at`.
+fn store_option(words: &mut [u64; 100], at: usize, value: Option<u64>)
+    requires { at + 2 ≤ 100 }
+    ensures { words.new ≡ sets words.old at (Words.option_words value) }
+{
+    let (tag, value) = parts(value, 0);
+    words[at] = tag;
+    words[at + 1] = value;
 }
 
 // An average's words from `at` on.
@@ -276,8 +281,7 @@ fn store_average(words: &mut [u64; 100], at: usize, average: MovingAverage)
     ensures { words.new ≡ sets words.old at (Words.average_words average) }
 {
     words[at] = to_bits(average.smoothing_factor);
-    words[at + 1] = tag(average.average);
-    words[at + 2] = average.average.map_or(0, to_bits);
+    store_option(words, at + 1, average.average.map(to_bits));
     words[at + 3] = to_bits(average.variance);
     words[at + 4] = to_bits(average.std);
 }
@@ -287,8 +291,8 @@ fn store_group(words: &mut [u64; 100], at: usize, group: Option<ArrivalGroup>)
     requires { at + 5 ≤ 100 }
     ensures { words.new ≡ sets words.old at (Words.group_words group) }
 {
-    let times = group.unwrap_or(ArrivalGroup::new(0, 0));
-    words[at] = tag(group);
+    let (tag, times) = parts(group, ArrivalGroup::new(0, 0));
+    words[at] = tag;
     words[at + 1] = times.first_local_send_time;
     words[at + 2] = times.first_remote_recv_time;
     words[at + 3] = times.last_local_send_time;
@@ -312,21 +316,18 @@ fn store_acked(words: &mut [u64; 100], a: AckedBitrateEstimator)
 {
     words[1] = a.initial_window;
     words[2] = a.window;
-    words[3] = tag(a.estimate);
-    words[4] = a.estimate.map_or(0, |rate| to_bits(rate.0));
+    store_option(words, 3, a.estimate.map(|rate| to_bits(rate.0)));
     words[5] = to_bits(a.estimate_var);
     words[6] = a.sum.0.cast_unsigned();
     words[7] = a.current_window;
-    words[8] = tag(a.last_update);
-    words[9] = a.last_update.unwrap_or(0);
+    store_option(words, 8, a.last_update);
 }
 
 #[tactic(auto, unfolding(crate::specs::LinkWords::groups_words))]
 fn store_groups(words: &mut [u64; 100], a: ArrivalGroupAccumulator)
     ensures { words.new ≡ sets words.old 10 (Words.groups_words a) }
 {
-    words[10] = tag(a.send_time_origin);
-    words[11] = a.send_time_origin.unwrap_or(0);
+    store_option(words, 10, a.send_time_origin);
     store_group(words, 12, a.previous_group);
     store_group(words, 17, a.current_group);
 }
@@ -359,24 +360,24 @@ fn store_overuse(
 )
     ensures { words.new ≡ sets words.old 70 (Words.overuse_words overuse last_threshold_update hypothesis) }
 {
-    let values = overuse.unwrap_or(Overuse {
+    let absent = Overuse {
         count: 0,
         time_overusing: TimeDelta::NegativeInfinity,
-    });
-    words[70] = tag(overuse);
+    };
+    let (tag, values) = parts(overuse, absent);
+    words[70] = tag;
     words[71] = values.count;
-    words[72] = time_tag(values.time_overusing);
-    words[73] = time_ns(values.time_overusing);
-    words[74] = tag(last_threshold_update);
-    words[75] = last_threshold_update.unwrap_or(0);
+    let (time_tag, ns) = time_parts(values.time_overusing);
+    words[72] = time_tag;
+    words[73] = ns;
+    store_option(words, 74, last_threshold_update);
     words[76] = hypothesis as u64;
 }
 
 fn store_trendline(words: &mut [u64; 100], t: TrendlineEstimator)
     ensures { words.new ≡ sets words.old 22 (Words.trendline_words t) }
 {
-    words[22] = tag(t.zero_time);
-    words[23] = t.zero_time.unwrap_or(0);
+    store_option(words, 22, t.zero_time);
     store_history(words, t.history);
     store_delays(words, t.delays);
     store_overuse(words, t.overuse, t.last_threshold_update, t.hypothesis);
@@ -390,13 +391,14 @@ fn store_rate_control(words: &mut [u64; 100], c: RateControl)
     words[78] = to_bits(c.estimated_bitrate.0);
     words[79] = to_bits(c.min_bitrate.0);
     words[80] = to_bits(c.max_bitrate.0);
-    words[81] = tag(c.last_observed_bitrate);
-    words[82] = c.last_observed_bitrate.map_or(0, |rate| to_bits(rate.0));
+    store_option(
+        words,
+        81,
+        c.last_observed_bitrate.map(|rate| to_bits(rate.0)),
+    );
     store_average(words, 83, c.averaged_observed_bitrate);
-    words[88] = tag(c.last_estimate_update);
-    words[89] = c.last_estimate_update.unwrap_or(0);
-    words[90] = tag(c.last_rtt);
-    words[91] = c.last_rtt.unwrap_or(0);
+    store_option(words, 88, c.last_estimate_update);
+    store_option(words, 90, c.last_rtt);
 }
 
 fn store_control(words: &mut [u64; 100], c: DelayController)
@@ -407,8 +409,7 @@ fn store_control(words: &mut [u64; 100], c: DelayController)
     store_rate_control(words, c.rate_control);
     store_average(words, 92, c.smoothed_rtt);
     words[97] = c.next_timeout;
-    words[98] = tag(c.last_twcc_report);
-    words[99] = c.last_twcc_report.unwrap_or(0);
+    store_option(words, 98, c.last_twcc_report);
 }
 
 // Stores a link's two parts, whatever the words were.

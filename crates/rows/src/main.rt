@@ -26,10 +26,10 @@ fn window(rt: &impl Print, name: &str) -> io::Result<()> {
     let estimate = once
         .update(500_000_000, DataSize::bytes(1000))
         .current_estimate();
-    match estimate {
-        None => println!(rt; "{name}: no sample"),
-        Some(_) => println!(rt; "{name}: a sample"),
+    if estimate.is_none() {
+        return println!(rt; "{name}: no sample");
     }
+    println!(rt; "{name}: a sample")
 }
 
 // The threshold of 12.5 ms, 100 ms after its last update.
@@ -42,9 +42,10 @@ fn threshold(rt: &impl Print, name: &str, modified_trend: f64) -> io::Result<()>
 }
 
 fn fresh() -> Link {
-    let acked = AckedBitrateEstimator::new(500_000_000, 150_000_000);
-    let control = DelayController::new(Bitrate(1_000_000.0));
-    Link { acked, control }
+    Link {
+        acked: AckedBitrateEstimator::new(500_000_000, 150_000_000),
+        control: DelayController::new(Bitrate(1_000_000.0)),
+    }
 }
 
 // A report of packets of one byte, all sent and received at 0, to a fresh link.

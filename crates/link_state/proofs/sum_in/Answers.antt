@@ -5,4 +5,4 @@ use Rattle.link_state.proofs.sum_in.Goals as goal
 
 pub returns : goal.returns
 unfolding sum_in
-returns c = simp (c.lt-below.ensures, c.lt-some.ensures, size-below) cc
+returns c = simp (c.lt.ensures, c.lt-2.ensures, size-below) cc

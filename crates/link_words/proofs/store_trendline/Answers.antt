@@ -5,5 +5,5 @@ use Rattle.link_words.proofs.store_trendline.Goals as goal
 
 pub returns : goal.returns
 returns c =
-    rw (c.store_overuse.ensures, c.store_delays.ensures, c.store_history.ensures, c.unwrap_or.ensures, c.tag.ensures)
+    rw (c.store_overuse.ensures, c.store_delays.ensures, c.store_history.ensures, c.store_option.ensures)
     (trendline-stored c.args.t (record { times = search rules; delays = search rules }) c.args.words.now)
