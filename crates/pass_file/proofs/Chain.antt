@@ -8,7 +8,7 @@ use lib.Dec.{eqb, leb}
 use lib.ListN.{length, take, drop, length-append, length-map}
 use lib.Seq.{sets, length-sets, length-take-le, sets-eq, take_all}
 use borrow.Author.Tests.{eq-eqb, ne_eqb, lt-leb, leb-true, leb-false}
-use Rattle.std.specs.Prelude.{Result, Ok, Err}
+use Rattle.std.specs.Prelude.{Option, Some, None, Result, Ok, Err}
 use Rattle.acked_bitrate_estimator.specs.declared.AckedBitrateEstimator.{AckedBitrateEstimator}
 use Rattle.bandwidth.specs.declared.OptionBitrate.{OptionBitrate}
 use Rattle.control.specs.Control as Control
@@ -166,40 +166,48 @@ module _ {file old ks out : List ℕ} {waiting : Packets} {link : Link} {at : �
       left = rw (calls-packet file p.records ks k b h) at p.left;
     }
 
-    -- a call is made, and its line written
-    called : {new : List ℕ} {after : Link} {rest : Packets} {place number : ℕ} → (kind bytes ≡ Records.packet → ⊥)
-        → Gives (call link (call_of bytes waiting)) number after
+    -- a call that is made: its number, the packets that wait after it, and the link
+    pub record Made (number : ℕ) (rest : Packets) (after : Link) : Type 0 where
+      pub no-packet : kind bytes ≡ Records.packet → ⊥
+      pub gives : Gives (call link (call_of bytes waiting)) number after
+      pub rest-is : rest ≡ kept (cond (eqb (kind bytes) Records.report) [] p.records)
+
+    -- what a record does: its call is made, or it is a packet, and the lines that are left are those of the records after it
+    abbrev pub Turn : Option ℕ → Packets → Link → Type 0
+    Turn (Some number) rest after = Made number rest after
+    Turn None rest after = Progress file old ks out rest after at
+
+    pub same-turn : {o o₁ : Option ℕ} {rest rest₁ : Packets} {after after₁ : Link} → o₁ ≡ o → rest₁ ≡ rest → after₁ ≡ after → Turn o rest after → Turn o₁ rest₁ after₁
+    same-turn a b c t = rw (a, b, c) t
+
+    -- after a report no packet waits
+    pub reported : {after : Link} {rest : Packets} {number : ℕ} → kind bytes ≡ Records.report → Gives (call link (call_of bytes waiting)) number after → rest ≡ of_records []
+        → Made number rest after
+    reported h g e = record { no-packet = λ q. absurd (omega arith); gives = g; rest-is = e ∙ rw (eq-eqb (kind bytes) Records.report h) }
+
+    -- after a timeout those that waited do
+    pub timed : {after : Link} {number : ℕ} → (kind bytes ≡ Records.packet → ⊥) × (kind bytes ≡ Records.report → ⊥) → Gives (call link (call_of bytes waiting)) number after
+        → Made number waiting after
+    timed h g = record { no-packet = h.0; gives = g; rest-is = rw (ne_eqb (kind bytes) Records.report h.1) p.kept-is }
+
+    -- the line of a call that is made
+    pub called : {new : List ℕ} {after : Link} {rest : Packets} {place number : ℕ} → Made number rest after
         → new ≡ put_line out at (line (line_of k number after.control)) → place ≡ place_after out at (line (line_of k number after.control))
-        → rest ≡ kept (cond (eqb (kind bytes) Records.report) [] p.records)
         → Progress file old ks new rest after place
-    called {after = after} {number = number} h g a d t =
+    called {after = after} {number = number} m a d =
         let o : call link (call_of bytes waiting) ≡ call link (call_at bytes p.records) = rw p.kept-is (kept-enough link (good-in-range link p.good) bytes p.records) in
-        let q = subst (λ u. Gives u number after) o g in
-        let l = rw (lines-call file p.records ks k b link h, gives-shown k q, q.link-is) at p.left in
+        let q = subst (λ u. Gives u number after) o m.gives in
+        let l = rw (lines-call file p.records ks k b link m.no-packet, gives-shown k q, q.link-is) at p.left in
         let w = put-room out at (line (line_of k number after.control)) (omega (arith, p.fits, p.size, simp length-append at l.after)) in
         rw (a, d)
         (record {
           records = cond (eqb (kind bytes) Records.report) [] p.records;
           good = rw q.link-is at (call-good link (call_at bytes p.records) p.good);
-          kept-is = t;
+          kept-is = m.rest-is;
           fits = p.fits;
           size = ap length w.bytes ∙ length-sets out at (line (line_of k number after.control)) ∙ p.size;
           left = left-wrote l w;
         })
-
-    -- after a report no packet waits
-    pub reported : {new : List ℕ} {after : Link} {rest : Packets} {place number : ℕ} → kind bytes ≡ Records.report
-        → Gives (call link (call_of bytes waiting)) number after
-        → new ≡ put_line out at (line (line_of k number after.control)) → place ≡ place_after out at (line (line_of k number after.control))
-        → rest ≡ of_records [] → Progress file old ks new rest after place
-    reported h g a d e = called (λ q. absurd (omega arith)) g a d (e ∙ rw (eq-eqb (kind bytes) Records.report h))
-
-    -- after a timeout those that waited do
-    pub timed : {new : List ℕ} {after : Link} {place number : ℕ} → (kind bytes ≡ Records.packet → ⊥) → (kind bytes ≡ Records.report → ⊥)
-        → Gives (call link (call_of bytes waiting)) number after
-        → new ≡ put_line out at (line (line_of k number after.control)) → place ≡ place_after out at (line (line_of k number after.control))
-        → Progress file old ks new waiting after place
-    timed h i g a d = called h g a d (rw (ne_eqb (kind bytes) Records.report i) p.kept-is)
 
 -- ---- what the two kinds of calls give
 module _ (bytes : List ℕ) (waiting : Packets) (acked : AckedBitrateEstimator) (control : DelayController) (y1 : in_range (link_of acked control) ≡ true) where

@@ -100,7 +100,8 @@ fn line_of(k: usize, number: u64, control: &DelayController) -> Line
 
 // ---- the listing
 // The lines along the chain of a linked file. A link that a run reaches is in range, so question 1 is not put; its two parts are kept
-// apart, so that a call copies only what it changes.
+// apart, so that a call copies only what it changes. In one function: with a report and a timeout in functions of their own, which change a link, a record of
+// samples/congestion.pass takes 115 ns, and so 112.
 fn list_chain(file: &[u8], out: &mut [u8], waiting: &mut WaitingPackets, link: Link) -> usize
     requires on_chain { OnChain file.now (Records.record_count file.now) 1 }
     requires room { length (PassFile.listing file.now) ≤ length out.old }
@@ -116,8 +117,11 @@ fn list_chain(file: &[u8], out: &mut [u8], waiting: &mut WaitingPackets, link: L
         let now = record.receive();
         // A record of a linked file's chain has a kind.
         let kind = record.kind().unwrap_or(Kind::Timeout);
-        match kind {
-            Kind::Packet => waiting.push(record),
+        let number = match kind {
+            Kind::Packet => {
+                waiting.push(record);
+                None
+            }
             Kind::Report => {
                 let probe = probe(record);
                 let mut number = 0;
@@ -136,7 +140,7 @@ fn list_chain(file: &[u8], out: &mut [u8], waiting: &mut WaitingPackets, link: L
                     Err(refusal) => number = refusal.number(),
                 }
                 waiting.clear();
-                at = line_of(k, number, &control).put(out, at);
+                Some(number)
             }
             Kind::Timeout => {
                 let mut number = 0;
@@ -144,8 +148,11 @@ fn list_chain(file: &[u8], out: &mut [u8], waiting: &mut WaitingPackets, link: L
                     Ok(()) => control = control.handle_timeout(acked.current_estimate(), now),
                     Err(refusal) => number = refusal.number(),
                 }
-                at = line_of(k, number, &control).put(out, at);
+                Some(number)
             }
+        };
+        if let Some(number) = number {
+            at = line_of(k, number, &control).put(out, at);
         }
         let next = record.next() as usize;
         if next == 0 {
