@@ -1,5 +1,5 @@
 -- Each turn writes the record's line, if it is a call, and leaves what follows it.
-use Rattle.std.proofs.Common.{◌≡◌, ◌∙◌, ℕ, List, sym, ap, subst, cond, eqb, [], ◌∷◌, refl, arith}
+use Rattle.std.proofs.Common.{◌≡◌, ◌∙◌, ℕ, List, sym, ap, subst, cond, eqb, [], ◌∷◌, refl, arith, rules}
 use Rattle.std.specs.Prelude.{Some}
 use Rattle.std.specs.Result.{result_unwrap_or}
 use Rattle.pass_records.specs.declared.Kind.TheVariants as Kind
@@ -49,7 +49,7 @@ module _ (c : After-next-next) where
                   rw (v.number-is, v.acked-is, v.control-is, v.number-number.ensures)
                   (report-refused bytes waiting acked control y is w.probe-probe.ensures c.receive-now.ensures j v.in-Err.is)
             ] in
-            same-turn b begun w.number-is w.waiting-is (rw (w.acked-is, w.control-is)) (reported b begun is gives w.clear.ensures)
+            same-turn b begun w.number-is refl (rw (w.acked-is, w.control-is)) (reported b begun is gives (search rules))
         | in-Timeout+in-Ok-judge_timeout w ↦
             let is = kind-other (kind bytes) (told ∙ w.in-Timeout.is) in
             same-turn b begun w.number-is w.waiting-is (rw (w.acked-is, w.control-is))
