@@ -1,9 +1,10 @@
 -- The state of a loop that hands out packets to two lists.
-use Rattle.std.specs.Prelude.{◌≡◌, ℕ, zero, suc, ◌+◌, ◌-◌, ◌^◌, ◌<◌, ◌≤◌, List, [], ◌∷◌, map, length, replicate, ℤ, slice_set, refl, Option, Some, None}
-use Rattle.std.proofs.Common.{sym, ap, ◌∙◌, zero-add, add-zero, add-one}
+use Rattle.std.specs.Prelude.{◌≡◌, ℕ, zero, suc, ◌+◌, ◌-◌, ◌^◌, ◌<◌, ◌≤◌, min, Bool, true, false, ◌&&◌, nat_lt, List, [], ◌∷◌, map, length, replicate, ℤ, slice_set, refl, Option, Some, None}
+use Rattle.std.proofs.Common.{sym, ap, ◌∙◌, zero-add, add-zero, add-one, ltb-false, ltb-true}
 use native.Mathlib.Omega.{arith}
 use Rattle.std.proofs.Math.ListN.{length-map, length-set}
 use Rattle.std.proofs.lemmas.List.Edits.{sets, sets-eq}
+use Rattle.bool_laws.specs.Bools.{both}
 use Rattle.twcc.specs.Feedback.{signed}
 use Rattle.twcc.specs.declared.Packet.{Packet}
 use Rattle.feedback_reader.specs.Reader.{Step, gives, step}
@@ -16,6 +17,18 @@ use Rattle.feedback_lists.specs.Laws.{none_stays, packets-none, cursor-none, pac
 over-is : {A : Type 0} (new old : List A) → length new ≤ length old → sets old 0 new ≡ over new old
 unfolding over
 over-is new old h = rw zero-add at (sets-eq new old 0 (rw zero-add h))
+
+pub both-room : (n a b : ℕ) → (nat_lt n a && nat_lt n b) ≡ true → n < min a b
+both-room n a b e =
+    let t = both (nat_lt n a) (nat_lt n b) e in
+    omega (arith, ltb-true n a t.0, ltb-true n b t.1)
+
+pub no_room : (n a b : ℕ) → (nat_lt n a && nat_lt n b) ≡ false → min a b ≤ n
+no_room n a b e = go (nat_lt n a) refl e
+  where
+    go : (t : Bool) → nat_lt n a ≡ t → (t && nat_lt n b) ≡ false → min a b ≤ n
+    go true h k = let l = ltb-false n b k in omega arith
+    go false h k = let l = ltb-false n a h in omega arith
 
 -- ---- the loop
 module _ (message statuses₀ : List ℕ) (ticks₀ : List ℤ) (from : Cursor) where

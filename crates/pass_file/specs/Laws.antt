@@ -167,6 +167,13 @@ module _ (most : ℕ) (m : most ≤ most_records) (file : List ℕ) (output : �
   pub listing-fits : length (listing file) ≤ output
   listing-fits = omega (arith, listing-of-run.short, least-enough (record_count file), (linked-file most file output e).enough)
 
+pub number-linked : (j : Result (Unit {0}) FileRefusal) → Records.number j ≡ 0 → j ≡ Ok tt
+number-linked (Ok tt) e = refl
+number-linked (Err FileRefusal.BadLength) e = cc
+number-linked (Err FileRefusal.BadKind) e = cc
+number-linked (Err FileRefusal.BadNext) e = cc
+number-linked (Err FileRefusal.ShortOutput) e = cc
+
 -- ---- the answer to a file
 answer-listed : (judged : Result (Unit {0}) FileRefusal) (text : List ℕ) (n : ℕ) → answer judged text ≡ Ok n → (judged ≡ Ok tt) × (n ≡ length text)
 answer-listed (Ok linked) text n e = (refl, cc)

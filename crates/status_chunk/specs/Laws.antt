@@ -1,7 +1,7 @@
 -- Laws of a chunk's symbols.
 use Rattle.std.specs.Prelude.{◌≡◌, Bool, true, false, ◌&&◌, ◌||◌, List, [], ◌∷◌, ◌++◌, eqb, ltb, length, take}
 use Rattle.std.proofs.Math.Path.{refl, sym, ap}
-use Rattle.std.proofs.Common.{◌∙◌, append-nil, zero-mul, suc-mul}
+use Rattle.std.proofs.Common.{◌∙◌, append-nil, zero-mul, suc-mul, add-one}
 use Prim.Native.Nat.{ℕ, zero, suc, ◌+◌, ◌*◌, ◌-◌, ◌/◌, ◌%◌, ◌^◌, ◌≤◌, ◌<◌, min}
 use native.Mathlib.Omega.{arith}
 use Rattle.std.specs.Int.Count.{ones, ones_step}
@@ -39,6 +39,19 @@ unfolding symbol
 symbol-small chunk i h =
     cases (λ s. s ≤ 3) (ltb chunk status_vector) (λ e. omega (arith, ltb-true chunk status_vector e))
     (λ e. cases (λ s. s ≤ 3) (ltb chunk two_bit_vector) (λ f. omega arith) (λ f. omega arith))
+
+-- the next symbol, and those after it
+pub symbols-turn : (chunk i n : ℕ) → i < n → symbols_from chunk i (n - i) ≡ symbol chunk i ∷ symbols_from chunk (i + 1) (n - (i + 1))
+unfolding symbols_from
+symbols-turn chunk i n h =
+    let e : n - i ≡ suc (n - (i + 1)) = omega arith in
+    rw (e, add-one)
+
+pub symbols-end : (chunk i n : ℕ) → n ≤ i → symbols_from chunk i (n - i) ≡ []
+unfolding symbols_from
+symbols-end chunk i n h =
+    let e : n - i ≡ 0 = omega arith in
+    rw e
 
 -- the first n symbols, those of a chunk first
 pub take_split : (chunk i k n : ℕ) (after : List ℕ) → take n (symbols_from chunk i k ++ after) ≡ symbols_from chunk i (min k n) ++ take (n - min k n) after
@@ -113,6 +126,10 @@ bytes-turn chunk n i bytes whole h e =
     let z : 0 + (n - (i + 1)) ≡ n - (i + 1) = omega arith in
     omega (arith, rw k at e, rw z at (last-bytes chunk 0 (n - (i + 1))))
 
+pub delta-bytes-turn : (chunk i n bytes whole : ℕ) → i < n → bytes + delta_bytes (symbols_from chunk i (n - i)) ≡ whole → (bytes + symbol chunk i) + delta_bytes (symbols_from chunk (i + 1) (n - (i + 1))) ≡ whole
+unfolding delta_bytes
+delta-bytes-turn chunk i n bytes whole h e = omega (arith, rw (symbols-turn chunk i n h) at e)
+
 pub delta-bytes-most : (chunk i n : ℕ) → chunk < 2 ^ 16 → delta_bytes (symbols_from chunk i n) ≤ 3 * n
 unfolding delta_bytes symbols_from
 delta-bytes-most chunk i zero h = omega arith
@@ -143,19 +160,27 @@ module _ (chunk n i : ℕ) (whole : Bool) (h : i < n) (e : any_reserved (symbols
       let z : 0 + (n - (i + 1)) ≡ n - (i + 1) = omega arith in
       sym (rw z at (last-reserved chunk 0 (n - (i + 1)))) ∙ (rw k at e)
 
-  pub reserved-met : symbol chunk (n - (i + 1)) ≡ reserved → true ≡ whole
-  reserved-met s = or-true (any_reserved (symbols_from chunk 0 (n - (i + 1)))) ∙ (rw (eq-eqb _ _ s) at split-last)
+  pub last-reserved-met : symbol chunk (n - (i + 1)) ≡ reserved → true ≡ whole
+  last-reserved-met s = or-true (any_reserved (symbols_from chunk 0 (n - (i + 1)))) ∙ (rw (eq-eqb _ _ s) at split-last)
     where
       or-true : (t : Bool) → true ≡ t || true
       or-true true = refl
       or-true false = refl
 
-  pub reserved-turn : (symbol chunk (n - (i + 1)) ≡ reserved → ⊥) → any_reserved (symbols_from chunk 0 (n - (i + 1))) ≡ whole
-  reserved-turn s = or-false (any_reserved (symbols_from chunk 0 (n - (i + 1)))) ∙ (rw (ne_eqb _ _ s) at split-last)
+  pub last-reserved-turn : (symbol chunk (n - (i + 1)) ≡ reserved → ⊥) → any_reserved (symbols_from chunk 0 (n - (i + 1))) ≡ whole
+  last-reserved-turn s = or-false (any_reserved (symbols_from chunk 0 (n - (i + 1)))) ∙ (rw (ne_eqb _ _ s) at split-last)
     where
       or-false : (t : Bool) → t ≡ t || false
       or-false true = refl
       or-false false = refl
+
+pub reserved-met : (chunk i n : ℕ) (whole : Bool) → i < n → symbol chunk i ≡ reserved → any_reserved (symbols_from chunk i (n - i)) ≡ whole → true ≡ whole
+unfolding any_reserved
+reserved-met chunk i n whole h s e = (sym (rw (symbols-turn chunk i n h) (simp (eq-eqb _ _ s)))) ∙ e
+
+pub reserved-turn : (chunk i n : ℕ) (whole : Bool) → i < n → (symbol chunk i ≡ reserved → ⊥) → any_reserved (symbols_from chunk i (n - i)) ≡ whole → any_reserved (symbols_from chunk (i + 1) (n - (i + 1))) ≡ whole
+unfolding any_reserved
+reserved-turn chunk i n whole h s e = (sym (rw (symbols-turn chunk i n h) (simp (ne_eqb _ _ s)))) ∙ e
 
 -- ---- a run
 pub run-symbol : (chunk i : ℕ) → chunk < status_vector → symbol chunk i ≡ chunk / 2 ^ 13

@@ -1,5 +1,5 @@
 -- Signed numbers: two's complement in 32 bits, and laws.
-use Rattle.std.specs.Prelude.{◌≡◌, refl, ℕ, suc, ◌+◌, ◌*◌, ◌-◌, ◌^◌, ◌≤◌, ◌<◌, Bool, true, false, cond, ltb, ℤ, pos, negsuc, List, get_or}
+use Rattle.std.specs.Prelude.{◌≡◌, refl, ℕ, zero, suc, ◌-ℤ◌, ◌+◌, ◌*◌, ◌-◌, ◌^◌, ◌≤◌, ◌<◌, Bool, true, false, cond, ltb, ℤ, pos, negsuc, List, get_or}
 use Rattle.std.proofs.Common.{sym, ap, ◌∙◌, arith, lt-ltb, le-ltb, ltb-true, ltb-false}
 use Rattle.std.proofs.Math.IntN.{sub_ℕ}
 use Rattle.std.specs.Int.{w16, w32, cast_signed, cast_unsigned, int_shr}
@@ -22,6 +22,10 @@ signed_low half bits h = rw (lt-ltb bits half h) (sub-above bits 0 (omega arith)
 pub signed_high : (half bits : ℕ) → half ≤ bits → bits < 2 * half → signed half bits ≡ negsuc (2 * half - suc bits)
 unfolding signed
 signed_high half bits h l = rw (le-ltb bits half h) (sub-below bits (2 * half) l)
+
+pub minus : (n : ℕ) → negsuc 0 -ℤ pos n ≡ negsuc n
+minus zero = refl
+minus (suc n) = ap negsuc (omega arith)
 
 -- a number in 32 bits is the same number
 pub signed-extend : (half bits : ℕ) → bits < 2 * half → half ≤ 2 ^ 31 → signed 0x8000_0000 (sign_extend half bits) ≡ signed half bits

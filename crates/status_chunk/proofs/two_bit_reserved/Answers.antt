@@ -1,7 +1,7 @@
 -- `status_chunk::two_bit_reserved` meets its contract. The loop's invariant: the symbols left have a reserved one where all have one.
 use Rattle.std.proofs.Common.{◌≡◌, ◌+◌, ◌-◌, ◌%◌, ◌≤◌, Bool, true, false, ltb, ltb-true, ltb-false, refl, sym, ap, ◌∙◌, arith, ℕ}
 use Rattle.status_chunk.specs.Chunk.{reserved, two_bit_vector, symbols_from, any_reserved}
-use Rattle.status_chunk.specs.Laws.{rest_of, rest-symbol, rest-none, rest-turn, reserved-turn, reserved-met}
+use Rattle.status_chunk.specs.Laws.{rest_of, rest-symbol, rest-none, rest-turn, last-reserved-turn, last-reserved-met}
 use Rattle.status_chunk.proofs.two_bit_reserved.Goals as goal
 
 module _ (chunk n i : ℕ) (whole : Bool) (v : two_bit_vector ≤ chunk) (few : n ≤ 7) (e : any_reserved (symbols_from chunk 0 (n - i)) ≡ whole) where
@@ -12,7 +12,7 @@ module _ (chunk n i : ℕ) (whole : Bool) (v : two_bit_vector ≤ chunk) (few : 
       go : (t : Bool) → ltb i n ≡ t → true ≡ whole
       go true t =
           let h = ltb-true i n t in
-          reserved-met chunk n i whole h e (sym (rest-symbol chunk n i few h v) ∙ s)
+          last-reserved-met chunk n i whole h e (sym (rest-symbol chunk n i few h v) ∙ s)
       go false t = absurd (omega (arith, rest-none chunk n i few (ltb-false i n t)))
 
   -- another, or zeros in its place
@@ -22,7 +22,7 @@ module _ (chunk n i : ℕ) (whole : Bool) (v : two_bit_vector ≤ chunk) (few : 
       go : (t : Bool) → ltb i n ≡ t → any_reserved (symbols_from chunk 0 (n - (i + 1))) ≡ whole
       go true t =
           let h = ltb-true i n t in
-          reserved-turn chunk n i whole h e (λ q. s (rest-symbol chunk n i few h v ∙ q))
+          last-reserved-turn chunk n i whole h e (λ q. s (rest-symbol chunk n i few h v ∙ q))
       go false t =
           let h = ltb-false i n t in
           let z : n - i ≡ 0 = omega arith in
