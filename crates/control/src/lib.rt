@@ -43,7 +43,7 @@ struct Timed {
 }
 
 // The same option, put together anew: a copy of it as a whole moves its padding too, and a chain of such copies stalls. Without it live reports of 1,024 packets
-// took 0.43 of the Rust's time in place of 0.37.
+// took 0.43 of the Rust's time in place of 0.41.
 pub fn anew<T: Copy>(option: Option<T>) -> Option<T>
     ensures { result ≡ option }
 {
