@@ -29,7 +29,7 @@ pub struct Window {
     pub elapsed: u64,
 }
 
-// The rate of a full window, and whether it held few bytes.
+// The rate of a full window, and whether it held few bytes. No option: one with few bytes has its rate too.
 #[derive(Clone, Copy)]
 pub struct Sample {
     pub rate: Bitrate,

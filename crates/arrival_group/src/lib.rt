@@ -136,6 +136,7 @@ impl ArrivalGroup {
     }
 
     // The length from this group's send instant, its last, to a later group's.
+    // Two methods, as in the Rust: one of both would take a closure for the field, and what they share is `between`.
     pub fn departure_delta(self, other: ArrivalGroup) -> TimeDelta
         ensures { result ≡ Group.departure_delta self other }
     {

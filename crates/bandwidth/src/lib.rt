@@ -45,6 +45,7 @@ impl Bitrate {
         self.0
     }
 
+    // By hand: std's `clamp` is that of `Ord`, which no float has.
     pub fn clamp(self, min: Bitrate, max: Bitrate) -> Self
         ensures { result ≡ B.clamp self min max }
     {

@@ -11,7 +11,7 @@ pub fn read_u8(s: &[u8], at: usize) -> u8
     s.get(at).copied().unwrap_or(0)
 }
 
-// The bytes of s, and zeros up to N.
+// The bytes of s, and zeros up to N: an array, which is what `from_le_bytes` takes.
 fn padded<const N: usize>(s: &[u8]) -> [u8; N]
     requires { length s.now ≤ N }
     ensures { result ≡ s.now ++ replicate (N - length s.now) 0 }
@@ -33,6 +33,7 @@ fn read_bytes<const N: usize>(s: &[u8], at: usize) -> [u8; N]
     }
 }
 
+// A function for each width: `from_le_bytes` is a method of each type, so a trait of the three would have these same bodies.
 pub fn read_u16(s: &[u8], at: usize) -> u16
     ensures { result ≡ le 2 s.now at }
 {

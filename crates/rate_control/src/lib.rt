@@ -128,6 +128,7 @@ impl RateControl {
         self.estimated_bitrate
     }
 
+    // A method for each field that changes alone: one of both would take a closure, and be no shorter.
     fn with_average(self, averaged_observed_bitrate: MovingAverage) -> Self
         ensures { result ≡ Rate.with_average self averaged_observed_bitrate }
     {

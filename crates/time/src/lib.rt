@@ -291,8 +291,8 @@ impl From<u64> for Timestamp {
     }
 }
 
-// Its limits, places and comparisons are written as those of `TimeDelta` are: a trait of both would have no body to share, and Rust has no `PartialEq` for all
-// types of a trait.
+// Its conversion, limits, places, comparisons and sums are written as those of `TimeDelta` are: a trait of both would have no body to share, and Rust has no
+// `PartialEq` or `From` for all types of a trait.
 impl Timestamp {
     pub fn is_exact(self) -> bool
         ensures { result ≡ Time.is_exact self }

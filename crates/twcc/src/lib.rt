@@ -45,7 +45,7 @@ struct Deltas {
     bytes: usize,
 }
 
-// The number of the question.
+// The number of the question, which is all that a program says of it: so no `Display`.
 impl From<Refusal> for u64 {
     ghost from_gives = { λ refusal n. n ≡ Feedback.refusal_number refusal };
 
