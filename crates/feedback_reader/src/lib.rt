@@ -64,6 +64,7 @@ fn fill(message: &[u8], at_hand: Place) -> Place
     ensures { result ≡ Reader.filled (drop at_hand.next_chunk message.now) at_hand }
 {
     let mut place = at_hand;
+    // No `for`: a chunk with symbols ends it, and the place of the chunk after that is part of what it gives.
     while place.symbols_left == 0 {
         if twcc::cut_short(message, place.next_chunk, 2) {
             return place;

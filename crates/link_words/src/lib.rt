@@ -74,7 +74,7 @@ fn load_floats(words: &[u64; 100], at: usize) -> [f64; 20]
     std::array::from_fn(|i| from_bits(words[at + i]))
 }
 
-// A tag past an enum's last counts as the last.
+// A tag past an enum's last counts as the last. The enums are of other crates, so there is no `From`, and a trait of the three would have these same bodies.
 fn time_delta(tag: u64, ns: u64) -> TimeDelta
     ensures { result ≡ Words.time_delta tag ns }
 {
@@ -242,6 +242,7 @@ pub fn formed(words: &[u64; 100]) -> bool
 }
 
 // ---- words of values
+// A length's tag and ns. The oracle's cases (crates/replay) are another format, with functions of their own.
 fn time_parts(time: TimeDelta) -> (u64, u64)
     ensures tag { result.0 ≡ Words.time_tag time }
     ensures ns { result.1 ≡ Words.time_ns time }

@@ -1,4 +1,5 @@
-// Document 01, pass file and program: one line of the listing, or a number alone on a line, written into a lent buffer.
+// Document 01, pass file and program: one line of the listing, or a number alone on a line, written into a lent buffer. There is no heap for a String, so each writer takes a
+// place in the buffer and returns the place after what it wrote.
 #![tactic(auto)]
 
 ghost use Rattle.std.specs.Prelude.{◌≡◌, [], ◌∷◌, ◌+◌, ◌≤◌, ◌<◌, length};

@@ -60,6 +60,7 @@ fn judge_report(
 }
 
 // ---- its line
+// No `From`: the enum is of another crate, and the letter this listing's.
 fn letter(hypothesis: BandwidthUsage) -> u8
     ensures { result ≡ PassFile.letter hypothesis }
 {
@@ -96,6 +97,7 @@ fn list_chain(file: &[u8], out: &mut [u8], waiting: &mut WaitingPackets, link: L
     let mut control = link.control;
     let mut at = 0;
     let mut k = 1;
+    // No `for`: each record names the next, and an iterator for this loop alone would be a type with an impl and laws of its own.
     loop {
         let record = Record::of(file, k);
         let now = record.receive();

@@ -25,7 +25,7 @@ pub enum FileRefusal {
     ShortOutput,
 }
 
-// Its number.
+// Its number, which is all that a program says of it: so no `Display`.
 impl From<FileRefusal> for u64 {
     ghost from_gives = { λ refusal n. n ≡ Records.question refusal };
 
@@ -97,6 +97,7 @@ impl<'a> Record<'a> {
         Kind::try_from(le_bytes::read_u8(self.bytes, 4))
     }
 
+    // Whether a report has a probe's result, 1 or 0. The byte as it stands, since question 11 is put to it.
     pub fn flag(self) -> u8
         ensures { result ≡ Records.flag self.entry.bytes.now }
     {
@@ -208,6 +209,7 @@ fn judge_chain(file: &[u8], last: usize) -> Result<(), FileRefusal>
     ensures { result ≡ Records.judge_along file.now last (Records.chain_from file.now last 1) }
 {
     let mut k = 1;
+    // No `for`: each record names the next, and any of them may be refused.
     while let Some(next) = Record::of(file, k).successor(last, k)? {
         k = next;
     }

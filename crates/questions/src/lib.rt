@@ -21,7 +21,7 @@ pub enum Refusal {
     TooManyBytes,
 }
 
-// A question's number.
+// A question's number, which is all that a program says of it: so no `Display`.
 impl From<Refusal> for u64 {
     ghost from_gives = { λ refusal n. n ≡ Questions.number refusal };
 

@@ -116,6 +116,7 @@ impl WaitingPackets {
         );
     }
 
+    // A method for each list: one of all five would take a closure or a number for the list.
     pub fn sequences(&self) -> &[u64]
         ensures { result.now ≡ self.now.sequences }
     {
