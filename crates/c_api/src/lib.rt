@@ -33,7 +33,7 @@ fn hypothesis_tag(hypothesis: BandwidthUsage) -> u32
     }
 }
 
-// Estimate, hypothesis and next timeout, to the lent places.
+// Estimate, hypothesis and next timeout, to the lent places. C lends each by a pointer of its own, so they are three parameters.
 fn tell(bitrate: &mut f64, hypothesis: &mut u32, next_timeout: &mut u64, control: DelayController)
     ensures bitrate_after { bitrate.new ≡ control.rate_control.estimated_bitrate.0 }
     ensures hypothesis_after { hypothesis.new ≡ hypothesis_tag control.trendline_estimator.hypothesis }

@@ -30,6 +30,7 @@ fn print(file: &[u8], out: &mut [u8]) -> usize
 // A longer file is read up to its beginning. A read that fails is no end, and then nothing is printed. What failed is said on standard error; where a write
 // fails, a part may be printed.
 fn main(rt: HostRuntime) -> io::Result<()> {
+    // No heap: arrays that have room for the longest beginning and the longest output.
     let mut input = [0u8; BEGINNING_BYTES];
     let mut out = [0u8; OUTPUT_BYTES];
     let Ok(n) = reading::read_full(&mut rt.reader(), &mut input) else {
