@@ -220,8 +220,8 @@ impl AckedBitrateEstimator {
             sum: self.sum,
             elapsed: self.current_window,
         };
-        match self.last_update {
-            None => self.filled(w, receive_time, packet_size),
+        let advanced = match self.last_update {
+            None => w,
             Some(last) => {
                 if receive_time < last {
                     let cleared = Window {
@@ -230,9 +230,9 @@ impl AckedBitrateEstimator {
                     };
                     return self.with_window(cleared, receive_time);
                 }
-                let advanced = w.advance(receive_time - last, self.window_length());
-                self.filled(advanced, receive_time, packet_size)
+                w.advance(receive_time - last, self.window_length())
             }
-        }
+        };
+        self.filled(advanced, receive_time, packet_size)
     }
 }
