@@ -79,5 +79,9 @@ pub record Typed (cursor : Cursor) : Type 0 where
   pub next-sequence : cursor.next_sequence < 2 ^ 16
   pub ticks : cursor.ticks < 2 ^ 32
 
+-- the place is of any cursor
+pub place-words : (cursor : Cursor) → (cursor_of (to_words cursor)).place.next_chunk ≡ cursor.place.next_chunk
+place-words cursor = refl
+
 pub cursor-words : (cursor : Cursor) → Typed cursor → cursor_of (to_words cursor) ≡ cursor
 cursor-words cursor t = simp (mod-eq_of_lt t.chunk, mod-eq_of_lt t.symbols-left, mod-eq_of_lt t.packets-left, mod-eq_of_lt t.next-sequence, mod-eq_of_lt t.ticks)
