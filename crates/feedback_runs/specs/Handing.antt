@@ -1,5 +1,5 @@
 -- Stepping from a started reader hands out the packets of the message one by one, and then none for ever.
-use Rattle.std.specs.Prelude.{◌≡◌, ℕ, zero, suc, ◌+◌, ◌*◌, ◌-◌, ◌≤◌, ◌<◌, Bool, true, false, ◌||◌, List, [], ◌∷◌, ◌++◌, map, eqb, ◌+ℤ◌, get_or, take, drop, replicate, Option, Some, None, Ok}
+use Rattle.std.specs.Prelude.{◌≡◌, ℕ, zero, suc, ◌+◌, ◌*◌, ◌-◌, ◌≤◌, ◌<◌, Bool, true, false, ◌||◌, List, [], ◌∷◌, ◌++◌, map, eqb, ◌+ℤ◌, get_or, take, drop, replicate, Option, Some, None, Result, Ok, Err}
 use Rattle.std.proofs.Math.Path.{refl, ap}
 use Rattle.std.proofs.Common.{sym, subst, ◌∙◌, zero-add, length-append, drop-drop}
 use native.Mathlib.Omega.{arith}
@@ -9,17 +9,18 @@ use borrow.Author.Tests.{le-ltb, eq-eqb, ne_eqb, eqb-true, eqb-false}
 use Rattle.bool_laws.specs.Bools.{cases}
 use Rattle.status_chunk.specs.Chunk.{symbol_count, symbol_left, symbols_from, delta_bytes, any_reserved}
 use Rattle.status_chunk.specs.Laws.{symbols-length}
-use Rattle.twcc.specs.Feedback.{signed, base_seq, status_count, chunk_symbols, symbols, deltas_at, judge, recv_delta, packet, packets_from, packets}
+use Rattle.twcc.specs.Feedback.{signed, header_bytes, base_seq, status_count, chunk_symbols, symbols, deltas_at, judge, recv_delta, packet, packets_from, packets}
 use Rattle.twcc.specs.Numbers.{signed_low}
 use Rattle.twcc.specs.declared.Header.{Header}
 use Rattle.twcc.specs.declared.Packet.{Packet}
-use Rattle.feedback_reader.specs.Starting.{started-good, started-is}
+use Rattle.twcc.specs.declared.Refusal.{Refusal}
+use Rattle.feedback_reader.specs.Starting.{judged_of, start-judged, started-good, started-is}
 use Rattle.feedback_reader.specs.Reader.{Step, cursor_at, start, filled, taken, taken_if, step_in, step}
 use Rattle.feedback_reader.specs.declared.Cursor.{Cursor}
 use Rattle.feedback_reader.specs.declared.Place.{Place}
 use Rattle.feedback_reader.specs.declared.Started.{Started}
 use Rattle.feedback_runs.specs.Ticks.{SumOf, sum_of, sum_is, Delta16, delta16}
-use Rattle.feedback_runs.specs.Packets.{accepted, packets-good, packets-count}
+use Rattle.feedback_runs.specs.Packets.{refused-no-yes, accepted, packets-good, packets-refused, packets-count}
 
 -- ---- the symbols to come
 -- those that are left of the chunk at hand, and those of the chunks at a place
@@ -243,8 +244,36 @@ module _ (message : List ℕ) (bytes : (i : ℕ) → get_or message i 0 < 256) (
   unfolding to_come
   all-to-come = rw (start-coming, signed_low 0x8000_0000 0 (omega arith)) (sym (packets-good message s.header good))
 
-  -- every packet of a message once, in order, and then none for ever
-  pub all-handed : (k : ℕ) → answers_at (length (packets message) + k) message s.cursor ≡ map Some (packets message) ++ replicate k None
-  all-handed k =
+  good-handed : (k : ℕ) → answers_at (length (packets message) + k) message s.cursor ≡ map Some (packets message) ++ replicate k None
+  good-handed k =
       rw (start-cursor, packets-count message s.header good)
       (hands_out (status_count message) k message starts refl start-sound ∙ ap (λ (l : List Packet). map Some l ++ replicate k None) all-to-come)
+
+-- a message that is turned down starts no cursor; this one has no packets left
+abbrev pub no_packets : Cursor
+no_packets = cursor_at 0 0 0
+
+abbrev pub cursor_of : Result Started Refusal → Cursor
+cursor_of (Ok s) = s.cursor
+cursor_of (Err r) = no_packets
+
+pub start-at : (message : List ℕ) → (cursor_of (start message)).place.next_chunk ≡ header_bytes
+start-at message = go (start message) refl
+  where
+    go : (started : Result Started Refusal) → start message ≡ started → (cursor_of started).place.next_chunk ≡ header_bytes
+    go (Ok s) e = ap (λ (t : Started). t.cursor.place.next_chunk) (started-is message s e)
+    go (Err r) e = refl
+
+-- a message that is turned down has no packets
+pub none-started : (message : List ℕ) (r : Refusal) → start message ≡ Err r → packets message ≡ []
+none-started message r e = packets-refused message (λ h good. refused-no-yes (ap judged_of (sym e) ∙ start-judged message ∙ good))
+
+-- every packet of a message once, in order, and then none for ever
+pub all-handed :
+    (message : List ℕ) (k : ℕ) → ((i : ℕ) → get_or message i 0 < 256) →
+    answers_at (length (packets message) + k) message (cursor_of (start message)) ≡ map Some (packets message) ++ replicate k None
+all-handed message k bytes = go (start message) refl
+  where
+    go : (started : Result Started Refusal) → start message ≡ started → answers_at (length (packets message) + k) message (cursor_of started) ≡ map Some (packets message) ++ replicate k None
+    go (Ok s) e = good-handed message bytes s e k
+    go (Err r) e = rw (none-started message r e, zero-add k) (none-for-ever k message no_packets refl)

@@ -1,13 +1,13 @@
 -- What a reader of feedback messages does, over whole messages and any number of steps. `start` and `next` below are the definitions that the contracts of the functions of crates/feedback_reader cite,
 -- `judge` and `packets` those of crates/twcc (specs/Feedback.antt).
 use Rattle.std.specs.Prelude.{◌≡◌, refl, ℕ, zero, suc, ◌+◌, ◌%◌, ◌^◌, ◌<◌, List, [], ◌∷◌, ◌++◌, map, ◌↔◌, length, get_or, take, drop, replicate, Option, Some, None, Result, Ok, Err}
-use Rattle.std.proofs.Common.{sym, ap, ◌∙◌, arith}
+use Rattle.std.proofs.Common.{sym, ap, ◌∙◌}
 use Rattle.std.specs.Borrow.{Bor}
 use Rattle.twcc.specs.Feedback.{header_bytes, status_count, read_header, deltas_end, judge, packets}
 use Rattle.twcc.specs.declared.Header.{Header}
 use Rattle.twcc.specs.declared.Packet.{Packet}
 use Rattle.twcc.specs.declared.Refusal.{Refusal}
-use Rattle.feedback_reader.specs.Reader.{start, reader_start, reader_next}
+use Rattle.feedback_reader.specs.Reader.{start, started, reader_start, reader_next}
 use Rattle.feedback_reader.specs.Starting.{start-good, start-refused}
 use Rattle.feedback_reader.specs.declared.Started.{Started}
 use Rattle.feedback_reader.specs.declared.FeedbackReader.{FeedbackReader}
@@ -16,7 +16,7 @@ use Rattle.feedback_runs.specs.Packets.{missing, accepted, packets-refused, pack
 use Rattle.feedback_runs.specs.InOrder.{judge_in_order, judged-in-order}
 use Rattle.feedback_runs.specs.Questions.{Says, judgement-says}
 use Rattle.feedback_runs.specs.Unread.{SameReading, ChunksAlike, after-last-delta, same-counted-symbols}
-use Rattle.feedback_runs.specs.Handing.{answers_at, all-handed}
+use Rattle.feedback_runs.specs.Handing.{no_packets, cursor_of, answers_at, all-handed}
 use Rattle.feedback_runs.specs.InLists.{first-packets}
 
 -- the first n answers of a reader, each step taking the reader that the step before gave back
@@ -29,14 +29,19 @@ abbrev pub told_by : Result FeedbackReader Refusal → Result Header Refusal
 told_by (Ok r) = Ok (read_header r.message.now)
 told_by (Err e) = Err e
 
+-- the reader that was started; a message that is turned down starts none, and this one has no packets left
+abbrev pub reader_of : Bor (List ℕ) → Result FeedbackReader Refusal → FeedbackReader
+reader_of message (Ok r) = r
+reader_of message (Err e) = record { message = message; cursor = no_packets }
+
 -- a started reader, where m is what the lent bytes hold
 pub record Reading (message : Bor (List ℕ)) (m : List ℕ) : Type 0 where
   -- a reader is started by judging: what its header says, or why there is none
   pub judged : told_by (reader_start message) ≡ judge m
   -- its answers are the packets of the message, each once, in order, and then that none is left, for ever
-  pub handed : (r : FeedbackReader) → reader_start message ≡ Ok r → (k : ℕ) → answers (length (packets m) + k) r ≡ map Some (packets m) ++ replicate k None
+  pub handed : (k : ℕ) → answers (length (packets m) + k) (reader_of message (reader_start message)) ≡ map Some (packets m) ++ replicate k None
   -- and n of them handed out to lists are the first n
-  pub in-lists : (s : Started) → start m ≡ Ok s → (n : ℕ) → next_packets n m s.cursor ≡ take n (packets m)
+  pub in-lists : (n : ℕ) → next_packets n m (cursor_of (start m)) ≡ take n (packets m)
   -- a good message tells its header's numbers, and has as many packets as its status count, in sequence order modulo 65,536
   pub header : (h : Header) → judge m ≡ Ok h → h ≡ read_header m
   pub count : (h : Header) → judge m ≡ Ok h → length (packets m) ≡ h.status_count
@@ -67,19 +72,14 @@ module _ (message : Bor (List ℕ)) where
       go (Ok h) e = rw (start-good m h e) (ap Ok (sym (accepted m h e).told))
       go (Err r) e = rw (start-refused m r e)
 
-  -- a started reader holds the message, and the cursor of the start
-  holds : (r : FeedbackReader) → reader_start message ≡ Ok r → (s : Result Started Refusal) → start m ≡ s → (t : Started) × (start m ≡ Ok t) × (r ≡ record { message = message; cursor = t.cursor })
-  holds r e (Ok t) f =
-      let g : Ok (record { message = message; cursor = t.cursor }) ≡ Ok r = rw f at e in
-      (t, f, cc)
-  holds r e (Err x) f =
-      let g : Err x ≡ Ok r = rw f at e in
-      absurd (let z : ◌≡◌ {A = ℕ} 0 1 = cc in omega arith)
+  -- a reader holds the message, and the cursor of the start
+  holds : (s : Result Started Refusal) → reader_of message (started message s) ≡ record { message = message; cursor = cursor_of s }
+  holds (Ok s) = refl
+  holds (Err r) = refl
 
-  reader-handed : ((i : ℕ) → get_or m i 0 < 256) → (r : FeedbackReader) → reader_start message ≡ Ok r → (k : ℕ) → answers (length (packets m) + k) r ≡ map Some (packets m) ++ replicate k None
-  reader-handed bytes r e k =
-      let h = holds r e (start m) refl in
-      rw h.2 (reader-answers (length (packets m) + k) (record { message = message; cursor = h.0.cursor }) ∙ all-handed m bytes h.0 h.1 k)
+  reader-handed : ((i : ℕ) → get_or m i 0 < 256) → (k : ℕ) → answers (length (packets m) + k) (reader_of message (reader_start message)) ≡ map Some (packets m) ++ replicate k None
+  reader-handed bytes k =
+      rw (holds (start m)) (reader-answers (length (packets m) + k) (record { message = message; cursor = cursor_of (start m) }) ∙ all-handed m k bytes)
 
 -- for every slice of bytes
 pub reading : (message : Bor (List ℕ)) → ((i : ℕ) → get_or message.now i 0 < 256) → Reading message message.now
@@ -88,7 +88,7 @@ reading message bytes =
     record {
       judged = reader-judged message;
       handed = reader-handed message bytes;
-      in-lists = λ s e n. first-packets n m bytes s e;
+      in-lists = λ n. first-packets n m bytes;
       header = λ h good. (accepted m h good).told;
       count = λ h good. packets-count m h good ∙ ap (λ (x : Header). x.status_count) (sym (accepted m h good).told);
       sequence = λ h good i l. rw (accepted m h good).told (packets-sequence m h bytes good i (rw (accepted m h good).told at l));

@@ -13,7 +13,7 @@ use Rattle.feedback_reader.specs.declared.Cursor.{Cursor}
 use Rattle.feedback_reader.specs.Starting.{started_at, start-good, start-refused}
 use Rattle.feedback_lists.specs.Lists.{next_packets, cursor_after, room}
 use Rattle.feedback_lists.specs.Laws.{cursor-none, packets-some, packets-add}
-use Rattle.feedback_runs.specs.InLists.{first-packets}
+use Rattle.feedback_runs.specs.InLists.{good-first}
 use Rattle.c_feedback.specs.CFeedback.{to_words, words_started, packets_to, if_some, words_after}
 use Rattle.c_feedback.specs.Laws.{Typed, cursor-words}
 use Rattle.lent_feedback.specs.Typed.{after-typed, start-typed}
@@ -73,7 +73,7 @@ module _ (message : List ℕ) (bytes : (i : ℕ) → get_or message i 0 < 256) w
   good-handed h good words ls =
       let e = start-good message h good in
       let s = started_at message h in
-      rw e (calls-on-words message bytes ls s.cursor (start-typed message bytes s e) ∙ first-packets (rooms ls) message bytes s e)
+      rw e (calls-on-words message bytes ls s.cursor (start-typed message bytes s e) ∙ good-first (rooms ls) message bytes s e)
 
   bad-kept : (j : Result Header Refusal) → judge message ≡ j → ((h : Header) → judge message ≡ Ok h → ⊥) → (words : List ℕ) → words_started (start message) words ≡ words
   bad-kept (Ok h) e none words = absurd (none h e)
