@@ -291,3 +291,8 @@ module _ (chunk : ℕ) (vector : status_vector ≤ chunk) (one : chunk < two_bit
   one-bit-bytes (suc n) h =
       ones_step (bits (suc n))
       ∙ rw (bits-last n (omega arith), bits-half n (omega arith), one-bit-bytes n (omega arith)) (sym (last-bytes chunk 0 n ∙ ap (λ (k : ℕ). symbol chunk k + delta_bytes (symbols_from chunk 0 n)) (omega arith)))
+
+-- ---- what the functions go by: the kind of chunk, and what is left of a vector of two-bit symbols
+pub ruleset by_kind = (take-symbols, run-bytes, run-reserved, count-one-bit, count-two-bit, one-bit-unreserved, one-bit-bytes)
+
+pub ruleset by_rest = (rest-symbol, rest-none, rest-turn, last-reserved-turn, last-reserved-met)

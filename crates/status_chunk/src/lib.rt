@@ -85,6 +85,7 @@ pub fn covered(chunk: u16, n: u16) -> u16
 }
 
 // How many bytes the recv deltas of a chunk's first n symbols have.
+#[tactic(auto, using(crate::specs::Laws::by_kind))]
 pub fn delta_bytes(chunk: u16, n: u16) -> usize
     ensures { result ≡ Chunk.delta_bytes (take n (Chunk.symbols_of chunk)) }
 {
@@ -99,6 +100,7 @@ pub fn delta_bytes(chunk: u16, n: u16) -> usize
 }
 
 // The bytes of a vector of one-bit symbols: its ones.
+#[tactic(auto, using(crate::specs::Laws::by_kind))]
 fn ones(chunk: u16, n: u16) -> usize
     requires { (Chunk.status_vector ≤ chunk) × ((chunk < Chunk.two_bit_vector) × (n ≤ 14)) }
     ensures { result ≡ Chunk.delta_bytes (Chunk.symbols_from chunk 0 n) }
@@ -121,6 +123,7 @@ fn two_bit_bytes(chunk: u16, n: u16) -> usize
 }
 
 // Whether one of a chunk's first n symbols is reserved.
+#[tactic(auto, using(crate::specs::Laws::by_kind))]
 pub fn any_reserved(chunk: u16, n: u16) -> bool
     ensures { result ≡ Chunk.any_reserved (take n (Chunk.symbols_of chunk)) }
 {
@@ -135,6 +138,7 @@ pub fn any_reserved(chunk: u16, n: u16) -> bool
 }
 
 // The same of a vector of two-bit symbols.
+#[tactic(auto, using(crate::specs::Laws::by_rest), unfolding(crate::specs::Chunk::symbols_from, crate::specs::Chunk::any_reserved))]
 fn two_bit_reserved(chunk: u16, n: u16) -> bool
     requires { (Chunk.two_bit_vector ≤ chunk) × (n ≤ 7) }
     ensures { result ≡ Chunk.any_reserved (Chunk.symbols_from chunk 0 n) }
