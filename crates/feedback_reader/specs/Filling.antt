@@ -1,6 +1,6 @@
 -- Laws of the first chunk with a symbol left.
 use Rattle.std.specs.Prelude.{◌≡◌, ℕ, ◌+◌, ◌<◌, ◌≤◌, List, [], ◌∷◌, length, drop, ◌≢◌, refl}
-use Rattle.std.proofs.Common.{arith, ne_eqb}
+use Rattle.std.proofs.Common.{arith, ne_eqb, length-drop, ltb-false, ltb-true}
 use Rattle.status_chunk.specs.Chunk.{symbol_count}
 use Rattle.twcc.specs.Feedback.{read_u16}
 use Rattle.twcc.specs.Chunks.{drop-two}
@@ -26,3 +26,6 @@ pub filled-turn :
     (record { next_chunk = place.next_chunk + 2; chunk = read_u16 bytes place.next_chunk; symbols_left = symbol_count (read_u16 bytes place.next_chunk) })
 unfolding filled
 filled-turn bytes place h e = rw (drop-two bytes place.next_chunk h, e)
+
+-- what `fill` goes by
+pub ruleset filling = (filled-now, filled-end, filled-turn, length-drop, ltb-false, ltb-true)

@@ -39,6 +39,7 @@ pub struct Started {
 }
 
 // Judges a message, and starts before its first packet. The chunk before the first is a run of no symbols.
+#[tactic(auto, using(std::proofs::lemmas::Result::err_from_is_err_and), unfolding(crate::specs::Reader::start))]
 pub fn start(message: &[u8]) -> Result<Started, Refusal>
     ensures { result ≡ Reader.start message.now }
 {
@@ -60,6 +61,7 @@ pub fn start(message: &[u8]) -> Result<Started, Refusal>
 }
 
 // The first chunk with a symbol left: the one at hand, or one of those after it. Runs of no symbols are passed over.
+#[tactic(auto, using(crate::specs::Filling::filling))]
 fn fill(message: &[u8], at_hand: Place) -> Place
     ensures { result ≡ Reader.filled (drop at_hand.next_chunk message.now) at_hand }
 {
@@ -80,6 +82,7 @@ fn fill(message: &[u8], at_hand: Place) -> Place
 }
 
 // The recv delta of a symbol at a place: a byte, not signed, or two bytes and signed.
+#[tactic(auto, using(twcc::specs::Numbers::casts), unfolding(crate::specs::Reader::delta_bits))]
 fn recv_delta(message: &[u8], at: usize, symbol: Symbol) -> i32
     ensures { cast_unsigned w32 result ≡ Reader.delta_bits (number symbol) message.now at }
 {
@@ -90,6 +93,7 @@ fn recv_delta(message: &[u8], at: usize, symbol: Symbol) -> i32
     }
 }
 
+#[tactic(auto, using(twcc::specs::Numbers::casts, status_chunk::specs::Laws::received), unfolding(twcc::specs::Feedback::packet))]
 fn packet(symbol: Symbol, sequence: u16, sum: u32) -> Packet
     ensures { result ≡ Feedback.packet (number symbol) sequence (Feedback.signed 0x8000_0000 sum) }
 {
@@ -101,6 +105,7 @@ fn packet(symbol: Symbol, sequence: u16, sum: u32) -> Packet
 }
 
 // The packet of the symbol at hand.
+#[tactic(auto, using(twcc::specs::Numbers::casts), unfolding(crate::specs::Reader::taken))]
 fn take(message: &[u8], cursor: &mut Cursor, place: Place, symbol: Symbol) -> Packet
     requires { (cursor.old.next_delta + number symbol ≤ length message.now) × ((0 < cursor.old.packets_left) × (0 < place.symbols_left)) }
     ensures { Reader.gives (Some result) cursor.new ≡ Reader.taken message.now place cursor.old (number symbol) }
@@ -122,6 +127,7 @@ fn take(message: &[u8], cursor: &mut Cursor, place: Place, symbol: Symbol) -> Pa
 }
 
 // The next packet. None is left after the last; nor is one where a cursor that no judging made runs past the message or meets a reserved symbol. Then it stays as it is.
+#[tactic(auto, unfolding(crate::specs::Reader::step, crate::specs::Reader::step_in, crate::specs::Reader::taken_if))]
 pub fn step(message: &[u8], cursor: &mut Cursor) -> Option<Packet>
     ensures { Reader.gives result cursor.new ≡ Reader.step message.now cursor.old }
 {
@@ -174,6 +180,7 @@ impl<'a> Iterator for FeedbackReader<'a> {
 
     ghost next_gives = { λ r packet s. (packet ≡ (Reader.reader_next r).packet) × (s ≡ (Reader.reader_next r).reader) };
 
+    #[tactic(auto, unfolding(crate::specs::Reader::step, crate::specs::Reader::step_in, crate::specs::Reader::taken_if, crate::specs::Reader::taken))]
     fn next(&mut self) -> Option<Packet> {
         step(self.message, &mut self.cursor)
     }

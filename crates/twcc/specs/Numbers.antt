@@ -1,7 +1,8 @@
 -- Signed numbers: two's complement in 32 bits, and laws.
 use Rattle.std.specs.Prelude.{◌≡◌, refl, ℕ, zero, suc, ◌-ℤ◌, ◌+◌, ◌*◌, ◌-◌, ◌^◌, ◌≤◌, ◌<◌, Bool, true, false, cond, ltb, ℤ, pos, negsuc, List, get_or}
-use Rattle.std.proofs.Common.{sym, ap, ◌∙◌, arith, lt-ltb, le-ltb, ltb-true, ltb-false}
+use Rattle.std.proofs.Common.{sym, ap, ◌∙◌, arith, lt-ltb, le-ltb, ltb-true, ltb-false, to_z-of_z}
 use Rattle.std.proofs.Math.IntN.{sub_ℕ}
+use borrow.Author.Rules.{sfits_of}
 use Rattle.std.specs.Int.{w16, w32, cast_signed, cast_unsigned, int_shr}
 use Rattle.twcc.specs.Feedback.{signed, read_header, read_u16}
 
@@ -73,3 +74,6 @@ pub header_is :
     (message : List ℕ) (b n f : ℕ) (r : ℤ) → b ≡ read_u16 message 0 → n ≡ read_u16 message 2 → r ≡ (read_header message).reference_time → f ≡ get_or message 7 0 →
     record { base_seq = b; status_count = n; reference_time = r; feedback_count = f } ≡ read_header message
 header_is message b n f r p q s t = rw (p, q, s, t)
+
+-- what functions go by that cast a number
+pub ruleset casts = (to_z-of_z, sfits_of, cast-signed, cast-extend)
