@@ -6,10 +6,10 @@ use Rattle.std.proofs.Math.Bool.{false}
 use native.Mathlib.Omega.{arith}
 use Rattle.std.proofs.Math.Nat.{zero-add}
 use Rattle.std.proofs.Math.Dec.{eqb}
-use Rattle.std.proofs.Math.ListN.{length-append}
+use Rattle.std.proofs.Math.ListN.{length-append, length-drop}
 use borrow.Author.Tests.{lt-ltb, le-ltb, eq-eqb, ne_eqb}
 use Rattle.status_chunk.specs.Chunk.{symbol_count, symbols_of, delta_bytes, any_reserved}
-use Rattle.status_chunk.specs.Laws.{take-length, take_split, take-symbols, any_append, bytes-append}
+use Rattle.status_chunk.specs.Laws.{take-length, take_split, take-symbols, take-bytes-most, any_append, bytes-append}
 use Rattle.twcc.specs.Feedback.{read_u16, header_bytes, status_count, read_header, chunk_symbols, chunk_bytes, symbols, deltas_at, judge_symbols, judge}
 use Rattle.twcc.specs.Chunks.{same_test, drop-two}
 use Rattle.twcc.specs.declared.Header.{Header}
@@ -145,3 +145,6 @@ judged-is message = go (judge message)
     go : (j : Result Header Refusal) → header_of (judgement j (deltas_at message)) ≡ j
     go (Ok h) = refl
     go (Err r) = refl
+
+-- what the functions go by
+pub ruleset judging = (chunks-short, turn_at, take-bytes-most, length-drop, judged-short, judged-none)

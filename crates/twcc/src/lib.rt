@@ -100,6 +100,7 @@ pub fn read_header(message: &[u8]) -> Header
 }
 
 // The chunks that cover the status count.
+#[tactic(auto, using(crate::specs::Judging::judging))]
 fn judge_chunks(message: &[u8], count: u16) -> Result<Deltas, Refusal>
     requires { Feedback.header_bytes ≤ length message.now }
     ensures { result ≡ Judging.chunks_from Feedback.header_bytes 0 (drop Feedback.header_bytes message.now) count }
@@ -124,6 +125,7 @@ fn judge_chunks(message: &[u8], count: u16) -> Result<Deltas, Refusal>
 }
 
 // A message judged whole, by questions 14 to 16 in the order in which it is read.
+#[tactic(auto, using(crate::specs::Judging::judging))]
 pub fn judge_with_deltas(message: &[u8]) -> Result<Judgement, Refusal>
     ensures { result ≡ Judging.judge_with_deltas message.now }
 {
@@ -144,6 +146,7 @@ pub fn judge_with_deltas(message: &[u8]) -> Result<Judgement, Refusal>
     })
 }
 
+#[tactic(auto, unfolding(crate::specs::Judging::judge_with_deltas))]
 pub fn judge(message: &[u8]) -> Result<Header, Refusal>
     ensures { result ≡ Feedback.judge message.now }
 {

@@ -1,9 +1,8 @@
 -- `twcc::judge_with_deltas` meets its contract: a law a case, by what the chunks say.
-use Rattle.std.proofs.Common.{◌≡◌, sym, ap, ◌∙◌}
+use Rattle.std.proofs.Common.{◌≡◌, sym, ◌∙◌}
 use Rattle.std.specs.Prelude.{Result}
 use Rattle.std.proofs.lemmas.Result.{err_from_is_err_and}
-use Rattle.twcc.specs.Judging.{judge_with_deltas, judgement_by, judged-short, judged-none, judged-by}
-use Rattle.twcc.specs.declared.Header.{Header}
+use Rattle.twcc.specs.Judging.{judge_with_deltas, judgement_by, judged-by}
 use Rattle.twcc.specs.declared.Deltas.{Deltas}
 use Rattle.twcc.specs.declared.Refusal.{Refusal}
 use Rattle.twcc.proofs.judge_with_deltas.Goals as goal
@@ -14,13 +13,6 @@ chunks-told :
     (c : After-judge_chunks) (t : Result Deltas Refusal) → c.judge_chunks.result ≡ t →
     judgement_by c.args.message.now c.read_header-header.result t ≡ judge_with_deltas c.args.message.now
 chunks-told c t = judged-by _ _ _ t c.read_header-header.ensures c.if-message-lt-HEADER_BYTES.false c.if-header-eq0.false c.judge_chunks.ensures
-
-pub returns-then-message-lt-HEADER_BYTES : goal.returns-then-message-lt-HEADER_BYTES
-returns-then-message-lt-HEADER_BYTES c = judged-short _ c.if-message-lt-HEADER_BYTES.true
-
-pub returns-then-header-eq0 : goal.returns-then-header-eq0
-returns-then-header-eq0 c =
-    judged-none _ c.if-message-lt-HEADER_BYTES.false (sym (ap (λ (h : Header). h.status_count) c.read_header-header.ensures) ∙ c.if-header-eq0.true)
 
 pub returns-in_err-deltas : goal.returns-in_err-deltas
 returns-in_err-deltas c =
