@@ -16,6 +16,7 @@ fn digit(d: u8) -> u8
 }
 
 // How many digits n takes in base 10.
+#[tactic(auto, using(crate::proofs::Writing::width_by_log))]
 fn width(n: u64) -> usize
     ensures value { result ≡ Listing.width n }
     ensures bound { result ≤ 20 }
@@ -69,6 +70,7 @@ pub struct Line {
 
 impl Line {
     // How many bytes it has: three numbers, a letter, 16 digits and the bytes that end the fields.
+    #[tactic(auto, using(crate::proofs::Writing::lengths))]
     fn bytes(self) -> usize
         ensures { result ≡ length (Listing.line self) }
     {
