@@ -43,6 +43,7 @@ fn store(reader: &mut [u64; 7], cursor: Cursor)
 }
 
 // Judges a message and starts a reader of it: 0, and the header's four numbers; or the opposite of the number of the question that the message fails, and every lent place is as it was.
+#[tactic(auto, using(crate::specs::Laws::judged))]
 pub fn hornetpewter_feedback_start(
     message: &[u8],
     reader: &mut [u64; 7],
