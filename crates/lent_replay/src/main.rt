@@ -4,12 +4,9 @@
 // many packets they had, and the first call that differs.
 #![tactic(auto)]
 
-ghost use Rattle.std.specs.Prelude.{◌≤◌};
-
-use acked_bitrate_estimator::AckedBitrateEstimator;
-use bandwidth::{BandwidthUsage, Bitrate};
+use bandwidth::Bitrate;
 use cases::{Case, Counts};
-use control::DelayController;
+use float_bits::{from_bits, to_bits};
 use link::{Called, Estimate};
 use link_state::Link;
 use questions::{Refusal, Report};
@@ -19,21 +16,13 @@ use std::io::Read;
 // More packets than any report has.
 const ROOM: u64 = 40;
 
-fn usage(u: BandwidthUsage) -> u64 {
-    match u {
-        BandwidthUsage::Overuse => 0,
-        BandwidthUsage::Normal => 1,
-        BandwidthUsage::Underuse => 2,
-    }
-}
-
 // Number, estimate, hypothesis, next timeout.
 fn answers(answer: Result<Estimate, Refusal>) -> [u64; 6] {
     match answer {
         Ok(e) => [
             0,
-            float_bits::to_bits(e.bitrate.as_f64()),
-            usage(e.hypothesis),
+            to_bits(e.bitrate.as_f64()),
+            e.hypothesis as u64,
             e.next_timeout,
             0,
             0,
@@ -44,31 +33,14 @@ fn answers(answer: Result<Estimate, Refusal>) -> [u64; 6] {
 
 // Reads numbers from standard input. Whether all were there.
 fn read_words(input: &mut impl Read, words: &mut [u64]) -> io::Result<bool> {
-    let n = words.len();
-    if n > 200 {
-        return Ok(false);
+    for word in words {
+        let mut bytes = [0u8; 8];
+        if reading::read_full(input, &mut bytes)? < 8 {
+            return Ok(false);
+        }
+        *word = u64::from_le_bytes(bytes);
     }
-    let mut bytes = [0u8; 1600];
-    let bytes = &mut bytes[0..8 * n];
-    let whole = reading::read_full(input, bytes)? == 8 * n;
-    for (i, word) in words.iter_mut().enumerate() {
-        *word = le_bytes::read_u64(bytes, 8 * i);
-    }
-    Ok(whole)
-}
-
-fn probe(flag: u64, b: u64) -> Option<Bitrate> {
-    (flag == 1).then(|| Bitrate(float_bits::from_bits(b)))
-}
-
-// How many packets a case has.
-fn packets(i: Case) -> usize
-    ensures { result ≤ 40 }
-{
-    if (i.op != 92) | (i.d > ROOM) {
-        return 0;
-    }
-    i.d as usize
+    Ok(true)
 }
 
 // The n numbers from a start on. Where there are not so many, which no case reaches, all.
@@ -79,85 +51,86 @@ fn part(lists: &[u64], start: usize, n: usize) -> &[u64] {
         .unwrap_or(lists)
 }
 
-fn report(link: Link, lists: &[u64], i: Case) -> Called {
-    let n = packets(i);
-    let report = Report {
-        sequences: part(lists, 0, n),
-        sizes: part(lists, n, n),
-        sends: part(lists, 2 * n, n),
-        remotes: part(lists, 3 * n, n),
-        receives: part(lists, 4 * n, n),
-        probe: probe(i.a, i.b),
-        moment: i.c,
-    };
-    link::report(link, report)
+// Reads the words of a link. None where they are not whole, or not a link's own.
+fn lent(input: &mut impl Read) -> io::Result<Option<Link>> {
+    let mut words = [0u64; 100];
+    let whole = read_words(input, &mut words)?;
+    let link = link_words::load(&words);
+    let own = whole & link_words::formed(&words) & (link_words::words(link) == words);
+    Ok(own.then_some(link))
 }
 
-fn call(link: Link, lists: &[u64], i: Case) -> Called {
-    if i.op == 92 {
-        return report(link, lists, i);
-    }
-    link::timeout(link, i.a)
-}
-
-// The lent link, whether its words were whole and are its own, and the counts.
+// The link that is lent, and the counts.
 #[derive(Clone, Copy)]
-struct Done {
-    link: Link,
-    lent: bool,
+struct Replay {
+    link: Option<Link>,
     counts: Counts,
 }
 
-impl Done {
-    fn new() -> Self {
-        let acked = AckedBitrateEstimator::new(500_000_000, 150_000_000);
-        let control = DelayController::new(Bitrate(1_000_000.0));
-        Self {
-            link: Link { acked, control },
-            lent: false,
-            counts: Counts::new(),
-        }
-    }
-
-    fn lend(self, input: &mut impl Read) -> io::Result<Self> {
-        let mut words = [0u64; 100];
-        let whole = read_words(input, &mut words)?;
-        let link = link_words::load(&words);
-        let lent = whole & link_words::formed(&words) & (link_words::words(link) == words);
-        Ok(Self { link, lent, ..self })
-    }
-
-    fn run(self, input: &mut impl Read, i: Case) -> io::Result<Self> {
-        let n = packets(i);
-        let mut room = [0u64; 200];
+impl Replay {
+    // Reads the words that come after a call, and compares. Without a link it differs.
+    fn compare<F: FnOnce(Link) -> Called>(
+        &mut self,
+        input: &mut impl Read,
+        i: Case,
+        packets: u64,
+        call: F,
+    ) -> io::Result<()>
+        requires { F.IsAlwaysCallable call }
+    {
         let mut after = [0u64; 100];
-        let lists = &mut room[0..5 * n];
-        let whole = read_words(input, lists)?;
-        let Called { answer, link } = call(self.link, lists, i);
-        let whole = self.lent & whole & read_words(input, &mut after)?;
-        let agrees = whole & i.agrees(answers(answer)) & (link_words::words(link) == after);
-        Ok(Self {
-            link,
-            counts: self.counts.counted(n as u64, agrees),
-            ..self
-        })
+        let whole = read_words(input, &mut after)?;
+        let mut agrees = false;
+        if let Some(link) = self.link {
+            let Called { answer, link } = call(link);
+            agrees = whole & i.agrees(answers(answer)) & (link_words::words(link) == after);
+            self.link = Some(link);
+        }
+        self.counts = self.counts.counted(packets, agrees);
+        Ok(())
+    }
+
+    // Where the lists are cut short, so are the words after them.
+    fn report(&mut self, input: &mut impl Read, i: Case) -> io::Result<()> {
+        let n = if i.d > ROOM { 0 } else { i.d as usize };
+        let mut room = [0u64; 5 * ROOM as usize];
+        let lists = &mut room[..5 * n];
+        read_words(input, lists)?;
+        let report = Report {
+            sequences: part(lists, 0, n),
+            sizes: part(lists, n, n),
+            sends: part(lists, 2 * n, n),
+            remotes: part(lists, 3 * n, n),
+            receives: part(lists, 4 * n, n),
+            probe: (i.a == 1).then(|| Bitrate(from_bits(i.b))),
+            moment: i.c,
+        };
+        self.compare(input, i, n as u64, |link| link::report(link, report))
+    }
+
+    // The operations are numbers in the file of cases, and are read here alone.
+    fn run(&mut self, input: &mut impl Read, i: Case) -> io::Result<()> {
+        match i.op {
+            90 => self.link = lent(input)?,
+            92 => self.report(input, i)?,
+            _ => self.compare(input, i, 0, |link| link::timeout(link, i.a))?,
+        }
+        Ok(())
     }
 }
 
 fn main(rt: HostRuntime) -> io::Result<()> {
     let mut input = rt.reader();
-    let mut done = Done::new();
+    let mut replay = Replay {
+        link: None,
+        counts: Counts::new(),
+    };
     for _ in 0..1_000_000_000u64 {
         let mut bytes = [0u8; 96];
         if reading::read_full(&mut input, &mut bytes)? < 96 {
             break;
         }
-        let i = Case::read(&bytes);
-        done = if i.op == 90 {
-            done.lend(&mut input)?
-        } else {
-            done.run(&mut input, i)?
-        };
+        replay.run(&mut input, Case::read(&bytes))?;
     }
-    done.counts.print_all(&rt, b"lent")
+    replay.counts.print_all(&rt, b"lent")
 }

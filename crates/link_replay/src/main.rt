@@ -4,16 +4,19 @@
 #![tactic(auto)]
 
 use acked_bitrate_estimator::AckedBitrateEstimator;
-use bandwidth::{BandwidthUsage, Bitrate};
+use bandwidth::Bitrate;
 use cases::{Case, Counts};
 use control::DelayController;
+use float_bits::{from_bits, to_bits};
 use link::{Called, Opening};
 use link_state::Link;
-use questions::Report;
+use questions::{Refusal, Report};
+use std::alloc::{AllocError, Global};
 use std::io;
 use time::TimeDelta;
 use trendline::TrendlineEstimator;
 
+// The oracle's tags of an overuse's length; 0 is no overuse. An enum whose variants hold values has no cast.
 fn delta_tag(d: TimeDelta) -> u64 {
     match d {
         TimeDelta::NegativeInfinity => 1,
@@ -23,179 +26,151 @@ fn delta_tag(d: TimeDelta) -> u64 {
     }
 }
 
-fn usage(u: BandwidthUsage) -> u64 {
-    match u {
-        BandwidthUsage::Overuse => 0,
-        BandwidthUsage::Normal => 1,
-        BandwidthUsage::Underuse => 2,
-    }
-}
-
 // Hypothesis with the counts of variations and of overuse.
 fn trend_word(t: TrendlineEstimator) -> u64 {
     let d = t.delays;
-    let count = usage(t.hypothesis()) | (d.num_delay_variations << 8);
+    let count = t.hypothesis() as u64 | (d.num_delay_variations << 8);
     match t.overuse {
         None => count,
         Some(o) => count | (o.count << 32) | (delta_tag(o.time_overusing) << 40),
     }
 }
 
-fn acked_bits(rate: Option<Bitrate>) -> u64 {
-    rate.map_or(0, |x| float_bits::to_bits(x.as_f64()))
-}
-
-fn shown(number: u64, link: Link) -> [u64; 6] {
+fn shown(answer: Result<(), Refusal>, link: Link) -> [u64; 6] {
     let control = link.control;
     let trendline = control.trendline_estimator;
+    let acked = link.acked.current_estimate();
     [
-        number,
-        float_bits::to_bits(control.last_estimate().as_f64()),
+        questions::number(answer),
+        to_bits(control.last_estimate().as_f64()),
         trend_word(trendline),
         control.poll_timeout(),
-        float_bits::to_bits(trendline.delays.delay_threshold),
-        acked_bits(link.acked.current_estimate()),
+        to_bits(trendline.delays.delay_threshold),
+        acked.map_or(0, |rate| to_bits(rate.as_f64())),
     ]
 }
 
-fn probe(flag: u64, b: u64) -> Option<Bitrate> {
-    (flag == 1).then(|| Bitrate(float_bits::from_bits(b)))
+// The packets that wait for a report, as it lends them: list by list.
+#[derive(Drop)]
+struct Packets {
+    sequences: Vec<u64>,
+    sizes: Vec<u64>,
+    sends: Vec<u64>,
+    remotes: Vec<u64>,
+    receives: Vec<u64>,
 }
 
-// A list's length: one less for the list that is short.
-fn length(n: usize, short: u64, list: u64) -> usize {
-    n.saturating_sub((short == list) as usize)
+impl Packets {
+    fn new(alloc: Global) -> Self {
+        Self {
+            sequences: Vec::new(alloc),
+            sizes: Vec::new(alloc),
+            sends: Vec::new(alloc),
+            remotes: Vec::new(alloc),
+            receives: Vec::new(alloc),
+        }
+    }
+
+    fn push(&mut self, i: Case) -> Result<(), AllocError> {
+        self.sequences.push(i.a)?;
+        self.sizes.push(i.b)?;
+        self.sends.push(i.c)?;
+        self.remotes.push(i.d)?;
+        self.receives.push(i.e)?;
+        Ok(())
+    }
+
+    fn clear(&mut self) {
+        self.sequences.clear();
+        self.sizes.clear();
+        self.sends.clear();
+        self.remotes.clear();
+        self.receives.clear();
+    }
 }
 
-// The n numbers from a start on. Where there are not so many, which no case reaches, all.
-fn part(lists: &[u64], start: usize, n: usize) -> &[u64] {
-    lists
-        .get(start..)
-        .and_then(|rest| rest.get(..n))
-        .unwrap_or(lists)
+// A list, or all but its last where it is the one that is short.
+fn list(list: &[u64], number: u64, short: u64) -> &[u64] {
+    match list.split_last() {
+        Some((_, rest)) if number == short => rest,
+        _ => list,
+    }
 }
 
-fn report(link: Link, lists: &[u64], n: usize, i: Case) -> Called {
+fn report(link: Link, packets: &Packets, i: Case) -> Called {
     let report = Report {
-        sequences: part(lists, 0, length(n, i.d, 1)),
-        sizes: part(lists, 1100, length(n, i.d, 2)),
-        sends: part(lists, 2200, length(n, i.d, 3)),
-        remotes: part(lists, 3300, length(n, i.d, 4)),
-        receives: part(lists, 4400, length(n, i.d, 5)),
-        probe: probe(i.a, i.b),
+        sequences: list(&packets.sequences, 1, i.d),
+        sizes: list(&packets.sizes, 2, i.d),
+        sends: list(&packets.sends, 3, i.d),
+        remotes: list(&packets.remotes, 4, i.d),
+        receives: list(&packets.receives, 5, i.d),
+        probe: (i.a == 1).then(|| Bitrate(from_bits(i.b))),
         moment: i.c,
     };
     link::report(link, report)
 }
 
-fn put(lists: &mut [u64], at: usize, x: u64) {
-    if let Some(place) = lists.get_mut(at) {
-        *place = x;
-    }
-}
-
-// How many packets wait after a case; a report takes all.
-fn next_waiting(lists: &mut [u64], n: usize, i: Case) -> usize {
-    match i.op {
-        92 => 0,
-        91 if n >= 1100 => 1101,
-        91 => {
-            put(lists, n, i.a);
-            put(lists, n + 1100, i.b);
-            put(lists, n + 2200, i.c);
-            put(lists, n + 3300, i.d);
-            put(lists, n + 4400, i.e);
-            n + 1
-        }
-        _ => n,
-    }
-}
-
-// The link after a case, and the number of the question that turned the call down, or 0.
-#[derive(Clone, Copy)]
-struct Numbered {
+// The link after some cases, the packets that wait for a report, and the counts.
+#[derive(Drop)]
+struct Replay {
     link: Link,
-    number: u64,
-}
-
-fn opening(link: Link, i: Case) -> Numbered {
-    match Opening::judge(Bitrate(float_bits::from_bits(i.a)), i.b, i.c) {
-        Ok(opening) => Numbered {
-            link: opening.link(),
-            number: 0,
-        },
-        Err(refusal) => Numbered {
-            link,
-            number: u64::from(refusal),
-        },
-    }
-}
-
-fn called(called: Called) -> Numbered {
-    Numbered {
-        link: called.link,
-        number: questions::number(called.answer),
-    }
-}
-
-fn next(link: Link, lists: &[u64], n: usize, i: Case) -> Numbered {
-    match i.op {
-        90 => opening(link, i),
-        92 => called(report(link, lists, n, i)),
-        93 => called(link::timeout(link, i.a)),
-        _ => Numbered { link, number: 0 },
-    }
-}
-
-// Our answers to a case. A packet that finds no room differs from the oracle's.
-fn words(next: Numbered, waiting: usize, i: Case) -> [u64; 6] {
-    if i.op == 91 {
-        return [(waiting > 1100) as u64, 0, 0, 0, 0, 0];
-    }
-    shown(next.number, next.link)
-}
-
-// The link after some cases, how many packets wait for a report, and the counts.
-#[derive(Clone, Copy)]
-struct Done {
-    link: Link,
-    waiting: usize,
+    packets: Packets,
     counts: Counts,
 }
 
-impl Done {
-    fn new() -> Self {
+impl Replay {
+    fn new(alloc: Global) -> Self {
         let acked = AckedBitrateEstimator::new(500_000_000, 150_000_000);
         let control = DelayController::new(Bitrate(1_000_000.0));
         Self {
             link: Link { acked, control },
-            waiting: 0,
+            packets: Packets::new(alloc),
             counts: Counts::new(),
         }
     }
 
-    fn run(self, lists: &mut [u64], i: Case) -> Self {
-        let next = next(self.link, lists, self.waiting, i);
-        let waiting = next_waiting(lists, self.waiting, i);
-        let agrees = i.agrees(words(next, waiting, i));
-        Self {
-            link: next.link,
-            waiting,
-            counts: self.counts.counted((i.op == 91) as u64, agrees),
-        }
+    fn open(&mut self, i: Case) -> Result<(), Refusal> {
+        let opening = Opening::judge(Bitrate(from_bits(i.a)), i.b, i.c)?;
+        self.link = opening.link();
+        Ok(())
+    }
+
+    fn take(&mut self, called: Called) -> Result<(), Refusal> {
+        self.link = called.link;
+        called.answer.map(|_| ())
+    }
+
+    // The operations are numbers in the file of cases, and are read here alone.
+    fn run(&mut self, i: Case) -> Result<(), AllocError> {
+        let answer = match i.op {
+            90 => self.open(i),
+            91 => {
+                self.packets.push(i)?;
+                self.counts = self.counts.counted(1, i.agrees([0; 6]));
+                return Ok(());
+            }
+            92 => {
+                let called = report(self.link, &self.packets, i);
+                self.packets.clear();
+                self.take(called)
+            }
+            93 => self.take(link::timeout(self.link, i.a)),
+            _ => Ok(()),
+        };
+        self.counts = self.counts.counted(0, i.agrees(shown(answer, self.link)));
+        Ok(())
     }
 }
 
 fn main(rt: HostRuntime) -> io::Result<()> {
     let mut input = rt.reader();
-    let mut done = Done::new();
-    let mut lists = [0u64; 5500];
+    let mut replay = Replay::new(rt.alloc());
     for _ in 0..1_000_000_000u64 {
         let mut bytes = [0u8; 96];
         if reading::read_full(&mut input, &mut bytes)? < 96 {
             break;
         }
-        done = done.run(&mut lists, Case::read(&bytes));
+        replay.run(Case::read(&bytes))?;
     }
-    done.counts.print_all(&rt, b"link")
+    replay.counts.print_all(&rt, b"link")
 }
