@@ -6,7 +6,7 @@ ghost use Rattle.cases.specs.Cases as Cases;
 
 use std::{array, io};
 
-// An operation, its inputs and the Rust's answers.
+// An operation, its inputs and the Rust's answers: the file has six for each operation, so they are an array.
 #[derive(Clone, Copy)]
 pub struct Case {
     pub op: u64,

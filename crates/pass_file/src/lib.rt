@@ -60,7 +60,7 @@ fn judge_report(
 }
 
 // ---- its line
-// No `From`: the enum is of another crate, and the letter this listing's.
+// The letters are this listing's alone: no cast gives them, and the enum is of another crate, so there is no `From`.
 fn letter(hypothesis: BandwidthUsage) -> u8
     ensures { result ≡ PassFile.letter hypothesis }
 {

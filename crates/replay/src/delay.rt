@@ -1,17 +1,41 @@
 // The operations of tools/oracle/drive.rs on the trendline, the rate control and the delay controller, on our side.
-use crate::numbers::{delta, delta_parts, option, option_bits, rate, rate_bits};
+use crate::numbers::{delta, delta_parts, option_bits, rate, rate_bits};
 use arrival_group::InterGroupDelayDelta;
 use cases::Case;
 use control::DelayController;
 use rate_control::{RateControl, Signal};
-use std::num::wrapping_add_usize;
+use std::alloc::{AllocError, Global};
 use trendline::TrendlineEstimator;
 
-// The packets that wait for a report, with room for 128: send instants, then remote ones from place 128 on, then local ones from 256 on.
-#[derive(Clone, Copy)]
+// The packets that wait for a report, as it lends them: list by list.
+#[derive(Drop)]
 pub struct Waiting {
-    lists: [u64; 384],
-    n: usize,
+    sends: Vec<u64>,
+    remotes: Vec<u64>,
+    receives: Vec<u64>,
+}
+
+impl Waiting {
+    pub fn new(alloc: Global) -> Self {
+        Self {
+            sends: Vec::new(alloc),
+            remotes: Vec::new(alloc),
+            receives: Vec::new(alloc),
+        }
+    }
+
+    fn push(&mut self, i: Case) -> Result<(), AllocError> {
+        self.sends.push(i.a)?;
+        self.remotes.push(i.b)?;
+        self.receives.push(i.c)?;
+        Ok(())
+    }
+
+    fn clear(&mut self) {
+        self.sends.clear();
+        self.remotes.clear();
+        self.receives.clear();
+    }
 }
 
 // Hypothesis with the counts of variations and of overuse.
@@ -33,19 +57,48 @@ fn overusing_ns(t: TrendlineEstimator) -> u64 {
     }
 }
 
-pub fn trend_words(t: TrendlineEstimator) -> [u64; 6] {
+// Each function below carries out a case's operation and gives our answers.
+pub fn trendline(t: &mut TrendlineEstimator, i: Case) -> [u64; 6] {
+    let variation = InterGroupDelayDelta {
+        send_delta: delta(i.a, i.b),
+        arrival_delta: delta(i.c, i.d),
+        last_remote_recv_time: i.e,
+    };
+    match i.op {
+        50 => *t = TrendlineEstimator::new(),
+        51 => *t = t.add_delay_observation(variation, i.e),
+        _ => (),
+    }
     let d = t.delays;
     [
-        trend_word(t),
+        trend_word(*t),
         float_bits::to_bits(d.delay_threshold),
         float_bits::to_bits(d.previous_trend),
         float_bits::to_bits(d.accumulated_delay),
         float_bits::to_bits(d.smoothed_delay),
-        overusing_ns(t),
+        overusing_ns(*t),
     ]
 }
 
-pub fn rate_words(r: RateControl) -> [u64; 6] {
+// The oracle's numbers of a signal. No other enum has its names, so there is nothing to share with link_words.
+fn signal(n: u64) -> Signal {
+    match n {
+        0 => Signal::Overuse,
+        1 => Signal::Underuse,
+        _ => Signal::Normal,
+    }
+}
+
+pub fn rate_control(r: &mut RateControl, i: Case) -> [u64; 6] {
+    match i.op {
+        60 => *r = RateControl::new(rate(i.a), rate(i.b), rate(i.c)),
+        61 => {
+            let observed = (i.c == 1).then_some(i.d);
+            *r = r.update(signal(i.a), rate(i.b), observed, i.e);
+        }
+        62 => *r = r.set_probe_result(rate(i.a), i.b),
+        _ => (),
+    }
     let m = r.averaged_observed_bitrate;
     [
         rate_bits(r.estimated_bitrate()),
@@ -57,113 +110,44 @@ pub fn rate_words(r: RateControl) -> [u64; 6] {
     ]
 }
 
-pub fn control_words(c: DelayController) -> [u64; 6] {
+fn report(c: DelayController, w: &Waiting, i: Case) -> DelayController {
+    c.update(
+        &w.sends,
+        &w.remotes,
+        &w.receives,
+        (i.a % 2 == 1).then_some(rate(i.b)),
+        (i.a / 2 == 1).then_some(rate(i.c)),
+        i.d,
+    )
+}
+
+fn control_words(c: DelayController) -> [u64; 6] {
     let trendline = c.trendline_estimator;
-    let word = trend_word(trendline);
-    let threshold = float_bits::to_bits(trendline.delays.delay_threshold);
-    let estimate = rate_bits(c.last_estimate());
     let rtt = c.get_smoothed_rtt();
     [
-        estimate,
-        word,
+        rate_bits(c.last_estimate()),
+        trend_word(trendline),
         c.poll_timeout(),
-        threshold,
+        float_bits::to_bits(trendline.delays.delay_threshold),
         rtt.is_some() as u64,
         rtt.unwrap_or(0),
     ]
 }
 
-fn signal(n: u64) -> Signal {
-    match n {
-        0 => Signal::Overuse,
-        1 => Signal::Underuse,
-        _ => Signal::Normal,
-    }
-}
-
-pub fn next_trendline(t: TrendlineEstimator, i: Case) -> TrendlineEstimator {
-    let variation = InterGroupDelayDelta {
-        send_delta: delta(i.a, i.b),
-        arrival_delta: delta(i.c, i.d),
-        last_remote_recv_time: i.e,
-    };
+// A packet waits for its report, and its answers are 0.
+pub fn control(c: &mut DelayController, w: &mut Waiting, i: Case) -> Result<[u64; 6], AllocError> {
     match i.op {
-        50 => TrendlineEstimator::new(),
-        51 => t.add_delay_observation(variation, i.e),
-        _ => t,
-    }
-}
-
-pub fn next_rate(r: RateControl, i: Case) -> RateControl {
-    match i.op {
-        60 => RateControl::new(rate(i.a), rate(i.b), rate(i.c)),
-        61 => r.update(signal(i.a), rate(i.b), option(i.c, i.d), i.e),
-        62 => r.set_probe_result(rate(i.a), i.b),
-        _ => r,
-    }
-}
-
-impl Waiting {
-    pub fn new() -> Self {
-        Self {
-            lists: [0; 384],
-            n: 0,
+        70 => *c = DelayController::new(rate(i.a)),
+        71 => {
+            w.push(i)?;
+            return Ok([0; 6]);
         }
-    }
-
-    fn push(self, i: Case) -> Self {
-        let mut w = self;
-        let n = w.n;
-        if n < 128 {
-            w.lists[n] = i.a;
-            w.lists[n + 128] = i.b;
-            w.lists[n + 256] = i.c;
+        72 => {
+            *c = report(*c, w, i);
+            w.clear();
         }
-        w.n = wrapping_add_usize(n, 1);
-        w
+        73 => *c = c.handle_timeout((i.a == 1).then_some(rate(i.b)), i.c),
+        _ => (),
     }
-}
-
-// A packet that finds no room is lost: its answer differs from the oracle's, which is 0.
-pub fn waiting_words(w: Waiting) -> [u64; 6] {
-    [(w.n > 128) as u64, 0, 0, 0, 0, 0]
-}
-
-// The n numbers from a start on. Where there are not so many, which no case reaches, all.
-fn part(lists: &[u64], start: usize, n: usize) -> &[u64] {
-    if start > lists.len() {
-        return lists;
-    }
-    if n > lists.len() - start {
-        return lists;
-    }
-    &lists[start..start + n]
-}
-
-fn report(c: DelayController, lists: &[u64], n: usize, i: Case) -> DelayController {
-    c.update(
-        part(lists, 0, n),
-        part(lists, 128, n),
-        part(lists, 256, n),
-        option(i.a % 2, rate(i.b)),
-        option(i.a / 2, rate(i.c)),
-        i.d,
-    )
-}
-
-pub fn next_control(c: DelayController, w: Waiting, i: Case) -> DelayController {
-    match i.op {
-        70 => DelayController::new(rate(i.a)),
-        72 => report(c, &w.lists, w.n, i),
-        73 => c.handle_timeout(option(i.a, rate(i.b)), i.c),
-        _ => c,
-    }
-}
-
-pub fn next_waiting(w: Waiting, i: Case) -> Waiting {
-    match i.op {
-        71 => w.push(i),
-        72 => Waiting::new(),
-        _ => w,
-    }
+    Ok(control_words(*c))
 }

@@ -16,6 +16,7 @@ use cases::{Case, Counts};
 use control::DelayController;
 use delay::Waiting;
 use rate_control::RateControl;
+use std::alloc::{AllocError, Global};
 use std::io;
 use trendline::TrendlineEstimator;
 
@@ -32,7 +33,7 @@ fn module(op: u64) -> usize
     7
 }
 
-// The counts of each module, and of all.
+// The counts of each of the eight modules, and of all.
 #[derive(Clone, Copy)]
 struct Modules {
     counts: [Counts; 8],
@@ -73,7 +74,7 @@ impl Modules {
 }
 
 // What the operations of each module work on.
-#[derive(Clone, Copy)]
+#[derive(Drop)]
 struct States {
     average: MovingAverage,
     acked: AckedBitrateEstimator,
@@ -85,7 +86,7 @@ struct States {
 }
 
 impl States {
-    fn new() -> Self {
+    fn new(alloc: Global) -> Self {
         let start = Bitrate(1_000_000.0);
         Self {
             average: MovingAverage::new(0.95),
@@ -94,42 +95,28 @@ impl States {
             trendline: TrendlineEstimator::new(),
             rate: RateControl::new(start, Bitrate::MIN_ESTIMATE, Bitrate::MAX_ESTIMATE),
             control: DelayController::new(start),
-            waiting: Waiting::new(),
+            waiting: Waiting::new(alloc),
         }
     }
 
-    // After a case. Each operation changes the states of its own module.
-    fn next(self, i: Case) -> Self {
-        let mut s = self;
-        s.average = quantities::next_average(s.average, i);
-        s.acked = quantities::next_acked(s.acked, i);
-        s.groups = quantities::next_groups(s.groups, i);
-        s.trendline = delay::next_trendline(s.trendline, i);
-        s.rate = delay::next_rate(s.rate, i);
-        s.control = delay::next_control(s.control, s.waiting, i);
-        s.waiting = delay::next_waiting(s.waiting, i);
-        s
-    }
-
-    // Our answers to a case, from the states after it.
-    fn words(self, i: Case) -> [u64; 6] {
-        match i.op {
-            0..20 => quantities::time_words(i),
-            20..30 => quantities::average_words(self.average, i),
-            30..40 => quantities::acked_words(self.acked),
-            40..50 => quantities::group_words(self.groups),
-            50..60 => delay::trend_words(self.trendline),
-            60..70 => delay::rate_words(self.rate),
-            71 => delay::waiting_words(self.waiting),
-            70..80 => delay::control_words(self.control),
-            _ => quantities::bandwidth_words(i),
-        }
+    // Carries out a case's operation and gives our answers.
+    fn run(&mut self, i: Case) -> Result<[u64; 6], AllocError> {
+        Ok(match i.op {
+            0..20 => quantities::time(i),
+            20..30 => quantities::average(&mut self.average, i),
+            30..40 => quantities::acked(&mut self.acked, i),
+            40..50 => quantities::groups(&mut self.groups, i),
+            50..60 => delay::trendline(&mut self.trendline, i),
+            60..70 => delay::rate_control(&mut self.rate, i),
+            70..80 => delay::control(&mut self.control, &mut self.waiting, i)?,
+            _ => quantities::bandwidth(i),
+        })
     }
 }
 
 fn main(rt: HostRuntime) -> io::Result<()> {
     let mut input = rt.reader();
-    let mut states = States::new();
+    let mut states = States::new(rt.alloc());
     let mut modules = Modules::new();
     for _ in 0..1_000_000_000u64 {
         let mut bytes = [0u8; 96];
@@ -137,8 +124,8 @@ fn main(rt: HostRuntime) -> io::Result<()> {
             break;
         }
         let case = Case::read(&bytes);
-        states = states.next(case);
-        modules = modules.counted(case, states.words(case));
+        let answers = states.run(case)?;
+        modules = modules.counted(case, answers);
     }
     modules.print(&rt)
 }

@@ -10,19 +10,12 @@ pub fn rate_bits(b: Bitrate) -> u64 {
     float_bits::to_bits(b.as_f64())
 }
 
-// A value that is there where the tag is 1.
-pub fn option<T: Copy>(tag: u64, value: T) -> Option<T> {
-    if tag == 1 { Some(value) } else { None }
-}
-
 // The bits of a float that may be missing, and 0 without it.
 pub fn option_bits(x: Option<f64>) -> u64 {
-    match x {
-        None => 0,
-        Some(v) => float_bits::to_bits(v),
-    }
+    x.map_or(0, float_bits::to_bits)
 }
 
+// link_words has these two for its own words; it knows the link, which stands above all modules here.
 pub fn delta(tag: u64, n: u64) -> TimeDelta {
     match tag {
         0 => TimeDelta::NegativeInfinity,

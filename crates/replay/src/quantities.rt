@@ -29,6 +29,7 @@ fn stamp_words(t: Timestamp) -> [u64; 6] {
     }
 }
 
+// The oracle's numbers: a cast gives -1, 0 and 1.
 fn order_number(o: Ordering) -> u64 {
     match o {
         Ordering::Less => 0,
@@ -63,43 +64,53 @@ fn compare_duration(a: TimeDelta, duration: TimeDelta) -> [u64; 6] {
     ]
 }
 
-fn stamps(op: u64, s: Timestamp, b: TimeDelta, t: Timestamp, n: u64) -> [u64; 6] {
-    match op {
+// A number of either sign, given as a float.
+fn whole(b: u64) -> i64 {
+    std::num::saturating_f64_to_i64(float_bits::from_bits(b))
+}
+
+// Each function below carries out a case's operation and gives our answers. The operations are numbers in the file of cases; each is read in the
+// function of its module alone.
+pub fn time(i: Case) -> [u64; 6] {
+    let a = delta(i.a, i.b);
+    let b = delta(i.c, i.d);
+    let s = stamp(i.a, i.b);
+    let t = stamp(i.c, i.d);
+    let n = i.c;
+    match i.op {
+        1 => delta_words(a + b),
+        2 => delta_words(a - b),
+        3 => compare(a, b),
+        4 => delta_words(a / (n % 0x1_0000_0000) as u32),
+        5 => [float_bits::to_bits(a.as_secs_f64()), 0, 0, 0, 0, 0],
         6 => stamp_words(s + b),
         7 => stamp_words(s - b),
         8 => delta_words(s - t),
         9 => [order_number(s.cmp(&t)), s.is_exact() as u64, 0, 0, 0, 0],
         10 => stamp_words(s + n),
         11 => stamp_words(s - n),
-        _ => delta_words(s - Timestamp::from(n)),
-    }
-}
-
-fn deltas(op: u64, a: TimeDelta, b: TimeDelta, n: u64) -> [u64; 6] {
-    match op {
-        1 => delta_words(a + b),
-        2 => delta_words(a - b),
-        3 => compare(a, b),
-        4 => delta_words(a / (n % 0x1_0000_0000) as u32),
-        5 => [float_bits::to_bits(a.as_secs_f64()), 0, 0, 0, 0, 0],
+        12 => delta_words(s - Timestamp::from(n)),
         13 => [rate_bits(size(n) / a), 0, 0, 0, 0, 0],
+        15 => delta_words(TimeDelta::from_secs(whole(i.a))),
+        16 => delta_words(TimeDelta::from_millis(whole(i.a))),
         _ => compare_duration(a, TimeDelta::from(n)),
     }
 }
 
-pub fn bandwidth_words(i: Case) -> [u64; 6] {
-    if i.op == 80 {
-        let a = rate(i.a);
-        let b = rate(i.b);
-        return [
-            rate_bits(a.clamp(rate(i.c), rate(i.d))),
-            rate_bits(a * b.as_f64()),
-            (a < b) as u64,
-            rate_bits(Bitrate::bps(i.e)),
-            0,
-            0,
-        ];
-    }
+fn rate_words(i: Case) -> [u64; 6] {
+    let a = rate(i.a);
+    let b = rate(i.b);
+    [
+        rate_bits(a.clamp(rate(i.c), rate(i.d))),
+        rate_bits(a * b.as_f64()),
+        (a < b) as u64,
+        rate_bits(Bitrate::bps(i.e)),
+        0,
+        0,
+    ]
+}
+
+fn size_words(i: Case) -> [u64; 6] {
     let a = size(i.a);
     let b = size(i.b);
     [
@@ -112,7 +123,21 @@ pub fn bandwidth_words(i: Case) -> [u64; 6] {
     ]
 }
 
-pub fn average_words(m: MovingAverage, i: Case) -> [u64; 6] {
+pub fn bandwidth(i: Case) -> [u64; 6] {
+    match i.op {
+        80 => rate_words(i),
+        _ => size_words(i),
+    }
+}
+
+pub fn average(m: &mut MovingAverage, i: Case) -> [u64; 6] {
+    let x = float_bits::from_bits(i.a);
+    match i.op {
+        20 => *m = MovingAverage::new(x),
+        21 => *m = m.update(x),
+        22 => *m = m.reset(),
+        _ => (),
+    }
     let n = float_bits::from_bits(i.b);
     let probe = float_bits::from_bits(i.c);
     let upper = m.upper_range(n);
@@ -130,7 +155,12 @@ pub fn average_words(m: MovingAverage, i: Case) -> [u64; 6] {
     ]
 }
 
-pub fn acked_words(a: AckedBitrateEstimator) -> [u64; 6] {
+pub fn acked(a: &mut AckedBitrateEstimator, i: Case) -> [u64; 6] {
+    match i.op {
+        30 => *a = AckedBitrateEstimator::new(i.a, i.b),
+        31 => *a = a.update(i.a, size(i.b)),
+        _ => (),
+    }
     let bytes = std::num::saturating_f64_to_u64(a.sum.as_bytes_f64());
     let variance = float_bits::to_bits(a.estimate_var);
     match a.current_estimate() {
@@ -139,7 +169,19 @@ pub fn acked_words(a: AckedBitrateEstimator) -> [u64; 6] {
     }
 }
 
-pub fn group_words(g: Accumulated) -> [u64; 6] {
+pub fn no_groups() -> Accumulated {
+    Accumulated {
+        accumulator: ArrivalGroupAccumulator::new(),
+        delta: None,
+    }
+}
+
+pub fn groups(g: &mut Accumulated, i: Case) -> [u64; 6] {
+    match i.op {
+        40 => *g = no_groups(),
+        41 => *g = g.accumulator.accumulate_packet(i.a, i.b),
+        _ => (),
+    }
     let Some(x) = g.delta else {
         return [0; 6];
     };
@@ -153,56 +195,4 @@ pub fn group_words(g: Accumulated) -> [u64; 6] {
         arrival_ns,
         x.last_remote_recv_time,
     ]
-}
-
-pub fn next_average(m: MovingAverage, i: Case) -> MovingAverage {
-    let x = float_bits::from_bits(i.a);
-    match i.op {
-        20 => MovingAverage::new(x),
-        21 => m.update(x),
-        22 => m.reset(),
-        _ => m,
-    }
-}
-
-pub fn next_acked(a: AckedBitrateEstimator, i: Case) -> AckedBitrateEstimator {
-    match i.op {
-        30 => AckedBitrateEstimator::new(i.a, i.b),
-        31 => a.update(i.a, size(i.b)),
-        _ => a,
-    }
-}
-
-pub fn no_groups() -> Accumulated {
-    Accumulated {
-        accumulator: ArrivalGroupAccumulator::new(),
-        delta: None,
-    }
-}
-
-pub fn next_groups(g: Accumulated, i: Case) -> Accumulated {
-    match i.op {
-        40 => no_groups(),
-        41 => g.accumulator.accumulate_packet(i.a, i.b),
-        _ => g,
-    }
-}
-
-// A number of either sign, given as a float.
-fn whole(b: u64) -> i64 {
-    let x = float_bits::from_bits(b);
-    if -1e15 <= x && x <= 1e15 {
-        std::num::truncating_f64_to_i64(x)
-    } else {
-        0
-    }
-}
-
-pub fn time_words(i: Case) -> [u64; 6] {
-    match i.op {
-        15 => delta_words(TimeDelta::from_secs(whole(i.a))),
-        16 => delta_words(TimeDelta::from_millis(whole(i.a))),
-        6..=12 => stamps(i.op, stamp(i.a, i.b), delta(i.c, i.d), stamp(i.c, i.d), i.c),
-        _ => deltas(i.op, delta(i.a, i.b), delta(i.c, i.d), i.c),
-    }
 }
