@@ -18,6 +18,7 @@ const PACKET_BYTES: usize = 8;
 // More than any case's message and packets need.
 const ROOM: usize = 1_000_000;
 
+// As the file has it, number and zeros of a refused message too: a `Result` of a header would leave the zeros uncompared.
 #[derive(Clone, Copy, PartialEq, Eq)]
 struct Case {
     length: u32,
@@ -147,7 +148,7 @@ fn replay(input: &mut impl Read, bytes: &mut [u8]) -> io::Result<Counts> {
 }
 
 fn main(rt: HostRuntime) -> io::Result<()> {
-    let mut bytes = [0u8; ROOM];
+    let mut bytes = cases::zeros::<ROOM>();
     let counts = replay(&mut rt.reader(), &mut bytes)?;
     counts.print_all(&rt, b"feedback")
 }
