@@ -6,7 +6,7 @@ use bandwidth::Bitrate;
 use link::{Called, Opening};
 use link_state::Link;
 use questions::Report;
-use std::io;
+use std::{array, io};
 
 // How long a packet that was sent at so many ms waits, in ms: from 3 to 4 s each one waits 3 ms longer than the one before.
 fn queue(send: u64) -> u64 {
@@ -32,15 +32,6 @@ fn sent(report: u64, i: u64) -> u64 {
     report * 50 + i * 5
 }
 
-#[derive(Clone, Copy)]
-struct Lists {
-    sequences: [u64; 10],
-    sizes: [u64; 10],
-    sends: [u64; 10],
-    remotes: [u64; 10],
-    receives: [u64; 10],
-}
-
 fn size(send: u64, first_size: u64) -> u64 {
     if send < 500 {
         return first_size;
@@ -48,33 +39,20 @@ fn size(send: u64, first_size: u64) -> u64 {
     1200
 }
 
-fn packets(report: u64, first_size: u64) -> Lists {
-    let mut lists = Lists {
-        sequences: [0; 10],
-        sizes: [0; 10],
-        sends: [0; 10],
-        remotes: [0; 10],
-        receives: [0; 10],
-    };
-    for i in 0..10usize {
-        let send = sent(report, i as u64);
-        let arrival = send.wrapping_add(queue(send));
-        lists.sequences[i] = send;
-        lists.sizes[i] = size(send, first_size);
-        lists.sends[i] = ns(send);
-        lists.remotes[i] = ns(arrival.wrapping_add(20));
-        lists.receives[i] = ns(arrival.wrapping_add(40));
-    }
-    lists
-}
-
-fn report(lists: Lists, moment: u64, link: Link) -> Called {
+// The report of that number, of ten packets, taken at a moment. A packet's sequence is the ms at which it is sent.
+fn report(link: Link, number: u64, first_size: u64, moment: u64) -> Called {
+    let sequences: [u64; 10] = array::from_fn(|i| sent(number, i as u64));
+    let arrivals = sequences.map(|send| send.wrapping_add(queue(send)));
+    let sizes = sequences.map(|send| size(send, first_size));
+    let sends = sequences.map(ns);
+    let remotes = arrivals.map(|arrival| ns(arrival.wrapping_add(20)));
+    let receives = arrivals.map(|arrival| ns(arrival.wrapping_add(40)));
     let report = Report {
-        sequences: &lists.sequences,
-        sizes: &lists.sizes,
-        sends: &lists.sends,
-        remotes: &lists.remotes,
-        receives: &lists.receives,
+        sequences: &sequences,
+        sizes: &sizes,
+        sends: &sends,
+        remotes: &remotes,
+        receives: &receives,
         probe: None,
         moment,
     };
@@ -113,7 +91,7 @@ struct State {
 }
 
 fn next(rt: &impl Print, number: u64, first_size: u64, state: State) -> io::Result<State> {
-    let called = report(packets(number, first_size), taken(number), state.link);
+    let called = report(state.link, number, first_size, taken(number));
     let link = called.link;
     let refused = state.refused.wrapping_add(called.answer.is_err() as u64);
     show(rt, number, estimate(link), refused)?;
