@@ -10,27 +10,18 @@ ghost use Rattle.link.specs.Link as Calls;
 ghost use Rattle.link_runs.specs.Statement.Call.{report, timeout};
 ghost use Rattle.lent_calls.specs.LentCalls as Lent;
 
-use bandwidth::{BandwidthUsage, Bitrate};
+use bandwidth::Bitrate;
 use control::DelayController;
 use link::{Called, Opening};
 use link_state::Link;
 use questions::{Refusal, Report};
 
 // ---- what C gets
+// The opposite of a question's number: C gets no `Result`.
 fn code(refusal: Refusal) -> i64
     ensures { result ≡ neg_ℤ (pos (number refusal)) }
 {
     -(u64::from(refusal) as i64)
-}
-
-fn hypothesis_tag(hypothesis: BandwidthUsage) -> u32
-    ensures { result ≡ hypothesis_tag hypothesis }
-{
-    match hypothesis {
-        BandwidthUsage::Overuse => 0,
-        BandwidthUsage::Normal => 1,
-        BandwidthUsage::Underuse => 2,
-    }
 }
 
 // Estimate, hypothesis and next timeout, to the lent places. C lends each by a pointer of its own, so they are three parameters.
@@ -41,7 +32,7 @@ fn tell(bitrate: &mut f64, hypothesis: &mut u32, next_timeout: &mut u64, control
 {
     let rate = control.last_estimate();
     *bitrate = rate.0;
-    *hypothesis = hypothesis_tag(control.hypothesis());
+    *hypothesis = control.hypothesis() as u32;
     *next_timeout = control.poll_timeout();
 }
 
@@ -64,7 +55,7 @@ fn store(
         Ok(estimate) => {
             link_words::store(link, called.link.acked, called.link.control);
             *bitrate = estimate.bitrate.0;
-            *hypothesis = hypothesis_tag(estimate.hypothesis);
+            *hypothesis = estimate.hypothesis as u32;
             *next_timeout = estimate.next_timeout;
             0
         }
@@ -141,7 +132,7 @@ fn report_in_order(
     0
 }
 
-// A report: its packets as five lists, a probe's result where has_probe is not 0, and the moment.
+// A report: its packets as five lists, a probe's result where has_probe is not 0 (C has no `Option`), and the moment.
 pub fn hornetpewter_report(
     link: &mut [u64; 100],
     sequences: &[u64],

@@ -22,7 +22,7 @@ pub extern "C" fn hornetpewter_open(
     c_api::hornetpewter_open(link, start_bitrate, initial_window, window)
 }
 
-// A report: its packets as five lists, a probe's result where has_probe is not 0, and the moment.
+// A report: its packets as five lists, a probe's result where has_probe is not 0 (C has no `Option`), and the moment.
 #[unsafe(no_mangle)]
 pub extern "C" fn hornetpewter_report(
     link: &mut [u64; 100],

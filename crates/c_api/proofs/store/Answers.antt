@@ -1,5 +1,5 @@
--- A refusal writes nothing; an accepted call's estimate and link go to their places.
-use mathlib.Core.Path.{refl, ap}
+-- A refusal writes nothing.
+use mathlib.Core.Path.{ap}
 use Rattle.link.specs.Link.{reply}
 use Rattle.c_api.proofs.Laws.{bitrate-no, code-no, hypothesis-no, next-timeout-no, words-no}
 use Rattle.c_api.proofs.store.Goals as goal
@@ -15,13 +15,3 @@ returns-in-Err c =
       hypothesis_after = hypothesis-no q no _;
       next_timeout_after = next-timeout-no q no _;
     }
-
-pub returns-in-Ok : goal.returns-in-Ok
-returns-in-Ok c =
-    rw c.in-Ok.is (record {
-      value = refl;
-      link_after = c.store.ensures;
-      bitrate_after = refl;
-      hypothesis_after = c.hypothesis_tag.ensures;
-      next_timeout_after = refl;
-    })
