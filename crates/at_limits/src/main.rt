@@ -19,6 +19,7 @@ fn text(rt: &impl Print, t: &[u8]) -> io::Result<()> {
     rt.write_all(t)
 }
 
+// Prints a number, of whatever kind.
 fn number(rt: &impl Print, n: u64) -> io::Result<()> {
     print!(rt; " {n}")
 }
@@ -31,7 +32,7 @@ fn yes_or_no(rt: &impl Print, yes: bool) -> io::Result<()> {
     }
 }
 
-// ---- C's calls on a lent link
+// ---- C's calls on a lent link: an array of 100 words, since C lends so many
 // Whether an opening gives C a code, and words are stored only with 0.
 fn open(
     rt: &impl Print,
@@ -117,6 +118,7 @@ fn left(
     )
 }
 
+// has_probe and probe are as C gives them.
 fn lent_report(
     rt: &impl Print,
     sequences: &[u64],
@@ -304,8 +306,7 @@ fn read(
 
 // The example of document 01, by calls: a timeout at 1 s, then a report of no packets with a probe of 2,000,000 bps at 1.01 s.
 fn example(rt: &impl Print) -> io::Result<()> {
-    let none = [0u64; 1];
-    let none = &none[0..0];
+    let none: &[u64] = &[];
     let mut link = lent(0, 1);
     let mut bitrate = 7.0;
     let mut hypothesis = 7;
@@ -386,7 +387,7 @@ fn number_line(rt: &impl Print, out: &mut [u8], n: u64) -> io::Result<()> {
     shown(rt, out, end)
 }
 
-// The second of either has no room.
+// The second of either has no room: a line is put into an array that the caller lends.
 fn lines(rt: &impl Print) -> io::Result<()> {
     let mut out = [0u8; 80];
     line(rt, &mut [0u8; 25], 1, 0, 0)?;
@@ -416,7 +417,7 @@ fn lines(rt: &impl Print) -> io::Result<()> {
 }
 
 // ---- question 1, asked first
-// A link whose estimate is below its limit.
+// A link whose estimate is below its limit. No opening makes one, so it is put together here, as `pass_file` does with the link that it opens.
 fn out_of_range() -> Link {
     let acked = AckedBitrateEstimator::new(500_000_000, 150_000_000);
     let control = DelayController::new(Bitrate(39_999.0));
@@ -519,17 +520,8 @@ fn variations(rt: &impl Print, n: u64) -> io::Result<()> {
         last_remote_recv_time: 0,
     };
     let after = trendline.add_delay_observation(variation, 0);
-    let updated = after.last_threshold_update;
-    match updated {
-        None => text(rt, b" no")?,
-        Some(_) => text(rt, b" yes")?,
-    }
-    let hypothesis = after.hypothesis();
-    match hypothesis {
-        BandwidthUsage::Overuse => text(rt, b" no"),
-        BandwidthUsage::Normal => text(rt, b" yes"),
-        BandwidthUsage::Underuse => text(rt, b" no"),
-    }
+    yes_or_no(rt, after.last_threshold_update.is_some())?;
+    yes_or_no(rt, matches!(after.hypothesis(), BandwidthUsage::Normal))
 }
 
 // Equal, less, less or equal.
