@@ -23,6 +23,7 @@ fn compare<F: Fn(u64, u64, u64) -> u64>(
     let mut counts = Counts::new();
     let size = 8 * inputs + 8;
     for _ in 0..1_000_000u64 {
+        // At most three inputs and the answer.
         let mut record = [0u8; 32];
         if reading::read_full(&mut file, &mut record[..size])? < size {
             break;

@@ -13,6 +13,7 @@ const MOST_RECORDS: u16 = 1_365;
 // A file's beginning with one record more tells what is printed for the file.
 const BEGINNING_BYTES: usize = (MOST_RECORDS as usize + 1) * pass_records::RECORD_BYTES;
 
+// Room for every listing. Input and output are arrays: the program allocates nothing.
 const OUTPUT_BYTES: usize = 65_536;
 
 // Writes what is printed for a file to the start of a buffer that has room for every listing.
