@@ -18,10 +18,6 @@ eq-nan nan = refl
 eq-nan (inf s) = refl
 eq-nan (fin s m e) = refl
 
-pub nan_eq : (d : Float) → eq nan d ≡ false
-unfolding eq
-nan_eq d = refl
-
 pub eq-zero : (d : Float) (s : Bool) (e : ℤ) → eq d (fin s 0 e) ≡ is_zero d
 unfolding eq
 eq-zero nan s e = refl

@@ -6,12 +6,9 @@ use Rattle.sqrt.specs.Sqrt.{sqrt}
 use Rattle.sqrt.specs.RootBits.{root_bits}
 use Rattle.sqrt.proofs.Cases.{at-nan, root-of-nan, zero_same, at-below, at-infinity, in-range}
 use Rattle.sqrt.specs.Units.{digits}
-use Rattle.sqrt.proofs.Equal.{nan_eq, eq-nan, by_bits}
+use Rattle.sqrt.proofs.Equal.{eq-nan, by_bits}
 use Rattle.float_order.specs.Order.{is_true}
 use Rattle.sqrt.proofs.is_sqrt.Goals as goal
-
-pub returns-then-is_nan : goal.returns-then-is_nan
-returns-then-is_nan c = rw (at-nan c.args.d (sym c.is_nan.ensures.value ∙ c.if-is_nan.true)) (sym (nan_eq (sqrt c.args.v)))
 
 pub returns-then-is_nan-2 : goal.returns-then-is_nan-2
 returns-then-is_nan-2 c = rw (at-nan c.args.v (sym c.is_nan-2.ensures.value ∙ c.if-is_nan-2.true), root-of-nan) (sym (eq-nan c.args.d))
