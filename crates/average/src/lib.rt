@@ -24,6 +24,7 @@ impl MovingAverage {
         }
     }
 
+    #[tactic(auto, unfolding(crate::specs::Average::within_std))]
     pub fn within_std(self, value: f64, num_std: f64) -> bool
         ensures { result ≡ Average.within_std self value num_std }
     {
@@ -35,6 +36,7 @@ impl MovingAverage {
         (floor <= value) & (value <= ceil)
     }
 
+    #[tactic(auto, unfolding(crate::specs::Average::upper_range))]
     pub fn upper_range(self, num_std: f64) -> Option<f64>
         ensures { result ≡ Average.upper_range self num_std }
     {
@@ -44,6 +46,7 @@ impl MovingAverage {
         Some(self.average? + num_std * self.std)
     }
 
+    #[tactic(auto, unfolding(crate::specs::Average::lower_range))]
     pub fn lower_range(self, num_std: f64) -> Option<f64>
         ensures { result ≡ Average.lower_range self num_std }
     {
@@ -54,6 +57,7 @@ impl MovingAverage {
     }
 
     // The first value is the average and leaves the variance.
+    #[tactic(auto, unfolding(crate::specs::Average::update))]
     pub fn update(self, value: f64) -> Self
         ensures { result ≡ Average.update self value }
     {
