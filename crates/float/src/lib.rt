@@ -40,6 +40,7 @@ pub fn within(lo: f64, hi: f64, x: f64) -> bool
 }
 
 // x without its sign.
+#[tactic(auto, using(crate::proofs::Library::abs_is))]
 pub fn abs(x: f64) -> f64
     ensures { result ≡ abs x }
 {
@@ -47,6 +48,7 @@ pub fn abs(x: f64) -> f64
 }
 
 // The least whole number at or above x, as a float. A zero keeps its sign.
+#[tactic(auto, using(crate::proofs::Library::ceil_is))]
 pub fn ceil(x: f64) -> f64
     ensures { result ≡ ceil x }
 {
