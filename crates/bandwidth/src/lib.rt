@@ -46,6 +46,7 @@ impl Bitrate {
     }
 
     // By hand: std's `clamp` is that of `Ord`, which no float has.
+    #[tactic(auto, unfolding(crate::specs::Bandwidth::clamp))]
     pub fn clamp(self, min: Bitrate, max: Bitrate) -> Self
         ensures { result ≡ B.clamp self min max }
     {
@@ -89,6 +90,7 @@ impl DataSize {
     }
 
     // The rate that moves the size in so many seconds, and 0 where those are a zero.
+    #[tactic(auto, unfolding(crate::specs::Bandwidth::per_secs))]
     pub fn per_secs(self, secs: f64) -> Bitrate
         ensures { result ≡ B.per_secs self secs }
     {
@@ -106,6 +108,7 @@ impl Add for DataSize {
 
     ghost add_gives = { λ a b sum. sum ≡ B.add_size a b };
 
+    #[tactic(auto, unfolding(crate::specs::Bandwidth::saturated))]
     fn add(self, rhs: DataSize) -> DataSize {
         DataSize(self.0.saturating_add(rhs.0))
     }
