@@ -79,6 +79,7 @@ impl TimeDelta {
     }
 
     // So many units of ns, of either sign.
+    #[tactic(auto, unfolding(crate::specs::Time::units, crate::specs::Time::positive, crate::specs::Time::negative))]
     fn units(number: i64, ns: u64) -> Self
         ensures { result ≡ Time.units number ns }
     {
@@ -116,7 +117,7 @@ impl TimeDelta {
     }
 
     // The place of the length in the order of all lengths: negative zero is just below zero.
-    #[tactic(auto, unfolding(crate::specs::Time::place, crate::specs::Time::place_limited))]
+    #[tactic(auto, unfolding(crate::specs::Time::place, crate::specs::Time::place_limited, crate::specs::Time::limited, crate::specs::Time::positive, crate::specs::Time::negative))]
     fn place(self) -> u64
         ensures { result ≡ Time.place self }
     {
@@ -219,7 +220,7 @@ impl Add<TimeDelta> for TimeDelta {
 
     ghost add_gives = { λ a b sum. sum ≡ Time.add a b };
 
-    #[tactic(auto, unfolding(crate::specs::Time::add))]
+    #[tactic(auto, unfolding(crate::specs::Time::add, crate::specs::Time::limited, crate::specs::Time::positive, crate::specs::Time::negative))]
     fn add(self, rhs: TimeDelta) -> TimeDelta {
         self.limited().add_limited(rhs.limited())
     }
@@ -316,7 +317,7 @@ impl Timestamp {
     }
 
     // The place of the instant in the order of all instants.
-    #[tactic(auto, unfolding(crate::specs::Time::place_instant, crate::specs::Time::place_limited_instant))]
+    #[tactic(auto, unfolding(crate::specs::Time::place_instant, crate::specs::Time::place_limited_instant, crate::specs::Time::limited_instant, crate::specs::Time::exact))]
     fn place(self) -> u64
         ensures { result ≡ Time.place_instant self }
     {
@@ -407,7 +408,7 @@ impl Add<TimeDelta> for Timestamp {
 
     ghost add_gives = { λ time length sum. sum ≡ Time.add_delta time length };
 
-    #[tactic(auto, unfolding(crate::specs::Time::add_delta))]
+    #[tactic(auto, unfolding(crate::specs::Time::add_delta, crate::specs::Time::limited, crate::specs::Time::limited_instant, crate::specs::Time::exact, crate::specs::Time::positive, crate::specs::Time::negative))]
     fn add(self, rhs: TimeDelta) -> Timestamp {
         self.limited().add_limited(rhs.limited())
     }

@@ -1,6 +1,0 @@
--- What is limited is within the limits.
-use Rattle.time.specs.Laws.{within}
-use Rattle.time.proofs.TimeDeltaAdd.add.Goals as goal
-
-pub add_limited-requires : goal.add_limited-requires
-add_limited-requires c = (within _ c.limited.ensures, within _ c.limited-2.ensures)
