@@ -59,6 +59,7 @@ fn between(later: u64, earlier: u64) -> TimeDelta
 }
 
 // A send instant to the nearest ms from the origin, halves up; past the end of u64, that end.
+#[tactic(auto, unfolding(crate::specs::ArrivalGroup::rounded, time::specs::Time::saturating_add))]
 fn rounded(origin: u64, elapsed: u64) -> u64
     ensures { result ≡ Group.rounded origin elapsed }
 {
@@ -89,6 +90,7 @@ impl ArrivalGroup {
     }
 
     // The Rust's tests, of which the one that most packets meet, the group's length, comes before the costly ones.
+    #[tactic(auto, unfolding(crate::specs::ArrivalGroup::belongs_to_group))]
     pub fn belongs_to_group(self, local_send_time: u64, remote_recv_time: u64) -> Belongs
         ensures { result ≡ Group.belongs_to_group self local_send_time remote_recv_time }
     {
@@ -125,6 +127,7 @@ impl ArrivalGroup {
     }
 
     // The group after a packet, or none where the packet needs a new one.
+    #[tactic(auto, unfolding(crate::specs::ArrivalGroup::add_packet))]
     pub fn add_packet(self, local_send_time: u64, remote_recv_time: u64) -> Option<Self>
         ensures { result ≡ Group.add_packet self local_send_time remote_recv_time }
     {
@@ -151,6 +154,7 @@ impl ArrivalGroup {
 }
 
 // The delay between a group, where there is one, and a later one.
+#[tactic(auto, unfolding(crate::specs::ArrivalGroup::delta))]
 fn delta(previous: Option<ArrivalGroup>, current: ArrivalGroup) -> Option<InterGroupDelayDelta>
     ensures { result ≡ Group.delta previous current }
 {
@@ -193,6 +197,7 @@ impl ArrivalGroupAccumulator {
     }
 
     // A packet whose send instant is rounded.
+    #[tactic(auto, unfolding(crate::specs::ArrivalGroup::accumulate_rounded))]
     fn accumulate_rounded(self, origin: u64, send: u64, remote: u64) -> Accumulated
         ensures { result ≡ Group.accumulate_rounded self.current_group self.previous_group origin send remote }
     {
@@ -212,6 +217,7 @@ impl ArrivalGroupAccumulator {
     }
 
     // A packet, in the order of receipt. One sent before the first packet joins no group.
+    #[tactic(auto, unfolding(crate::specs::ArrivalGroup::accumulate_packet))]
     pub fn accumulate_packet(self, local_send_time: u64, remote_recv_time: u64) -> Accumulated
         ensures { result ≡ Group.accumulate_packet self local_send_time remote_recv_time }
     {
