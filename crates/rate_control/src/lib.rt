@@ -39,6 +39,7 @@ pub struct RateControl {
 impl From<BandwidthUsage> for Signal {
     ghost from_gives = { λ usage signal. signal ≡ Rate.signal usage };
 
+    #[tactic(auto, unfolding(crate::specs::RateControl::signal))]
     fn from(usage: BandwidthUsage) -> Self {
         match usage {
             BandwidthUsage::Overuse => Signal::Overuse,
@@ -49,6 +50,7 @@ impl From<BandwidthUsage> for Signal {
 }
 
 impl State {
+    #[tactic(auto, unfolding(crate::specs::RateControl::transition))]
     pub fn transition(self, signal: Signal) -> Self
         ensures { result ≡ Rate.transition self signal }
     {
@@ -65,6 +67,7 @@ impl State {
 }
 
 // A round trip held to 10 to 200 ms.
+#[tactic(auto, unfolding(crate::specs::RateControl::reduction_interval))]
 fn reduction_interval(rtt: u64) -> u64
     ensures { result ≡ Rate.reduction_interval rtt }
 {
@@ -81,6 +84,7 @@ fn response_time(rtt: u64) -> f64
 }
 
 // The average, anew where a value lies below its range.
+#[tactic(auto, unfolding(crate::specs::RateControl::reset_below))]
 fn reset_below(average: MovingAverage, value: f64) -> MovingAverage
     ensures { result ≡ Rate.reset_below average value }
 {
@@ -91,6 +95,7 @@ fn reset_below(average: MovingAverage, value: f64) -> MovingAverage
 }
 
 // The average, anew where a value lies above its range.
+#[tactic(auto, unfolding(crate::specs::RateControl::reset_above))]
 fn reset_above(average: MovingAverage, value: f64) -> MovingAverage
     ensures { result ≡ Rate.reset_above average value }
 {
@@ -129,6 +134,7 @@ impl RateControl {
     }
 
     // A method for each field that changes alone: one of both would take a closure, and be no shorter.
+    #[tactic(auto, unfolding(crate::specs::RateControl::with_average))]
     fn with_average(self, averaged_observed_bitrate: MovingAverage) -> Self
         ensures { result ≡ Rate.with_average self averaged_observed_bitrate }
     {
@@ -138,6 +144,7 @@ impl RateControl {
         }
     }
 
+    #[tactic(auto, unfolding(crate::specs::RateControl::with_state))]
     fn with_state(self, state: State) -> Self
         ensures { result ≡ Rate.with_state self state }
     {
@@ -145,6 +152,7 @@ impl RateControl {
     }
 
     // The estimate as it is given, and when.
+    #[tactic(auto, unfolding(crate::specs::RateControl::with_estimate))]
     fn with_estimate(self, estimated_bitrate: Bitrate, now: u64) -> Self
         ensures { result ≡ Rate.with_estimate self estimated_bitrate now }
     {
@@ -156,6 +164,7 @@ impl RateControl {
     }
 
     // What an update hands in, before the state is acted on.
+    #[tactic(auto, unfolding(crate::specs::RateControl::with_inputs))]
     fn with_inputs(self, signal: Signal, observed_bitrate: Bitrate, rtt: Option<u64>) -> Self
         ensures { result ≡ Rate.with_inputs self signal observed_bitrate rtt }
     {
@@ -167,6 +176,7 @@ impl RateControl {
         }
     }
 
+    #[tactic(auto, unfolding(crate::specs::RateControl::update_observed_bitrate))]
     fn update_observed_bitrate(self, observed_bitrate: Bitrate) -> Self
         ensures { result ≡ Rate.update_observed_bitrate self observed_bitrate }
     {
@@ -176,6 +186,7 @@ impl RateControl {
     }
 
     // Whether the estimate may be reduced again: a round trip after the last change, or at once where the observed rate is below half of it.
+    #[tactic(auto, unfolding(crate::specs::RateControl::time_to_reduce_further))]
     fn time_to_reduce_further(self, now: u64, observed_bitrate: Bitrate) -> bool
         ensures { result ≡ Rate.time_to_reduce_further self now observed_bitrate }
     {
@@ -189,6 +200,7 @@ impl RateControl {
         observed_bitrate < self.estimated_bitrate * 0.5
     }
 
+    #[tactic(auto, unfolding(crate::specs::RateControl::is_near_convergence))]
     fn is_near_convergence(self) -> bool
         ensures { result ≡ Rate.is_near_convergence self }
     {
@@ -200,6 +212,7 @@ impl RateControl {
     }
 
     // Bits of a packet of a frame, of 30 frames a second.
+    #[tactic(auto, unfolding(crate::specs::RateControl::estimated_packet_size))]
     fn estimated_packet_size(self) -> f64
         ensures { result ≡ Rate.estimated_packet_size self.estimated_bitrate }
     {
@@ -208,6 +221,7 @@ impl RateControl {
         bits_per_frame / packets_per_frame
     }
 
+    #[tactic(auto, unfolding(crate::specs::RateControl::additive_increase))]
     fn additive_increase(self, since_last_update: u64) -> f64
         ensures { result ≡ Rate.additive_increase self since_last_update }
     {
@@ -217,6 +231,7 @@ impl RateControl {
         self.estimated_bitrate.0 + float::max(alpha * size, 1000.0)
     }
 
+    #[tactic(auto, unfolding(crate::specs::RateControl::multiplicative_increase))]
     fn multiplicative_increase(self, since_last_update: u64) -> f64
         ensures { result ≡ Rate.multiplicative_increase self since_last_update }
     {
@@ -225,6 +240,7 @@ impl RateControl {
         self.estimated_bitrate.0 + increase
     }
 
+    #[tactic(auto, unfolding(crate::specs::RateControl::raised))]
     fn raised(self, since_last_update: u64) -> f64
         ensures { result ≡ Rate.raised self since_last_update }
     {
@@ -234,12 +250,14 @@ impl RateControl {
         self.multiplicative_increase(since_last_update)
     }
 
+    #[tactic(auto, unfolding(crate::specs::RateControl::update_estimate))]
     fn update_estimate(self, bitrate: Bitrate, now: u64) -> Self
         ensures { result ≡ Rate.update_estimate self bitrate now }
     {
         self.with_estimate(bitrate.clamp(self.min_bitrate, self.max_bitrate), now)
     }
 
+    #[tactic(auto, unfolding(crate::specs::RateControl::increase))]
     fn increase(self, observed_bitrate: Bitrate, now: u64) -> Self
         ensures { result ≡ Rate.increase self observed_bitrate now }
     {
@@ -257,6 +275,7 @@ impl RateControl {
         next.update_estimate(Bitrate(new_estimate), now)
     }
 
+    #[tactic(auto, unfolding(crate::specs::RateControl::decrease))]
     fn decrease(self, observed_bitrate: Bitrate, now: u64) -> Self
         ensures { result ≡ Rate.decrease self observed_bitrate now }
     {
@@ -270,12 +289,14 @@ impl RateControl {
     }
 
     // A probe's result becomes the estimate; state and statistics stay.
+    #[tactic(auto, unfolding(crate::specs::RateControl::set_probe_result))]
     pub fn set_probe_result(self, probe_bitrate: Bitrate, now: u64) -> Self
         ensures { result ≡ Rate.set_probe_result self probe_bitrate now }
     {
         self.update_estimate(probe_bitrate, now)
     }
 
+    #[tactic(auto, unfolding(crate::specs::RateControl::update))]
     pub fn update(
         self,
         signal: Signal,
