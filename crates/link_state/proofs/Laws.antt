@@ -1,11 +1,12 @@
 -- The loop over the first n timings: what is left at i, and what the definitions say of it.
 use mathlib.Core.Path.{◌≡◌, refl}
-use mathlib.Core.Bool.{Bool, true, false, ◌&&◌}
+use mathlib.Core.Bool.{Bool, true, false, ◌&&◌, and-true}
 use mathlib.Core.List.{List, [], ◌∷◌}
 use Prim.Native.Nat.{ℕ, ◌+◌, ◌<◌, ◌≤◌}
 use native.Mathlib.Numerals.{add-one}
-use lib.ListN.{length, take, drop, get_or}
-use lib.Seq.{drop-cons, drop-length, length-take-le, get_or-take}
+use native.Mathlib.Omega.{arith}
+use lib.ListN.{length, take, drop, drop_of_length-le, get_or}
+use lib.Seq.{drop-cons, length-take-le, get_or-take}
 use lib.Ieee.{Float, nan, neg, le}
 use Rattle.link_state.specs.State.{ascends, all_within}
 use Rattle.float.specs.Float.{within}
@@ -17,9 +18,7 @@ rest-cons a n i h k =
 
 rest_end : (a : List Float) (n i : ℕ) → i ≡ n → n ≤ length a → drop i (take n a) ≡ []
 rest_end a n i e k =
-    let l : length (take n a) ≡ n = length-take-le n a k in
-    let d : drop (length (take n a)) (take n a) ≡ [] = drop-length (take n a) in
-    cc
+    drop_of_length-le (take n a) (omega (arith, length-take-le n a k))
 
 -- ---- one timing: its time, not below the one before, and its delay
 regroup : (p l w a b : Bool) → ((p && (l && w)) && (a && b)) ≡ (p && ((l && a) && (w && b)))
@@ -43,7 +42,5 @@ module _ (low high most : Float) (times delays : List Float) (n i : ℕ) (few : 
   pub timings-end : i ≡ n → left low i ≡ le low high
   unfolding ascends all_within
   timings-end e = rw (rest_end times n i, rest_end delays n i) (and-true (le low high))
-    where
-      and-true : (b : Bool) → (b && true) ≡ b
-      and-true true = refl
-      and-true false = refl
+
+pub ruleset timings_loop = (timings-turn, timings-end)

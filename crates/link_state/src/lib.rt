@@ -42,6 +42,7 @@ fn ns_in(ns: Option<u64>) -> bool
     ns.is_none_or(|ns| ns <= MOST_NS)
 }
 
+#[tactic(auto, unfolding(crate::specs::State::sum_in))]
 fn sum_in(sum: DataSize, elapsed: u64) -> bool
     ensures { result ≡ State.sum_in sum elapsed }
 {
@@ -105,6 +106,7 @@ fn groups_in(a: ArrivalGroupAccumulator) -> bool
 
 // ---- the trendline
 // The first n timings: times in order within ±10^12, delays within ±10^31. Every turn tests the same, so that LLVM takes two at once where n is known.
+#[tactic(auto, using(crate::proofs::Laws::timings_loop))]
 fn timings_in(times: [f64; 20], delays: [f64; 20], n: usize) -> bool
     requires { n ≤ 20 }
     ensures { result ≡ (State.ascends (Ieee.neg State.most_time) (take n times) State.most_time && State.all_within State.most31 (take n delays)) }

@@ -15,6 +15,7 @@ struct Root {
 }
 
 // The root of m * 2^e units of 2^-1074: m is brought to 53 digits, and the power to an even one.
+#[tactic(auto, using(crate::specs::Units::normal, crate::specs::Units::answer))]
 fn root_of(m: u64, e: u64) -> Root
     requires { (0 < m) × (m < 2 ^ 53) × (e < 2046) }
     ensures { Sized result.big result.base × (root_units (m * 2 ^ e) ≡ Ieee.of_bits binary64 (root_bits result.big result.base)) }
