@@ -70,6 +70,7 @@ const MOST_WINDOW: u64 = 10_000_000_000;
 const LEAST_SIZE: u64 = 1;
 
 // What a question says that is answered with yes or no.
+#[tactic(auto, unfolding(crate::specs::Questions::answer))]
 fn ask(yes: bool, refusal: Refusal) -> Result<(), Refusal>
     ensures { result ≡ Questions.answer yes refusal }
 {
@@ -83,12 +84,14 @@ fn start_in(start_bitrate: Bitrate) -> bool
     start_bitrate.within(Bitrate::MIN_ESTIMATE, Bitrate::MAX_ESTIMATE)
 }
 
+#[tactic(auto, unfolding(crate::specs::Questions::window_in))]
 pub fn window_in(window: u64) -> bool
     ensures { result ≡ Questions.window_in window }
 {
     (window % MS == 0) & (MS <= window) & (window <= MOST_WINDOW)
 }
 
+#[tactic(auto, using(std::proofs::lemmas::Result::err_from_is_err_and), unfolding(crate::specs::Questions::of_opening, crate::specs::Questions::first_no, crate::specs::Questions::answer))]
 pub fn opening(start_bitrate: Bitrate, initial_window: u64, window: u64) -> Result<(), Refusal>
     ensures { Questions.number_or0 result ≡ Questions.first_no (Questions.of_opening start_bitrate initial_window window) }
 {
@@ -101,6 +104,7 @@ pub fn opening(start_bitrate: Bitrate, initial_window: u64, window: u64) -> Resu
 
 // ---- report: 4 to 8, and what 9 asks of a byte sum
 // Whether every number passes a test. All are tested, which LLVM does by vectors.
+#[tactic(auto, using(crate::proofs::Laws::every_loop))]
 fn every<F: Fn(u64) -> bool>(xs: &[u64], test: F) -> bool
     requires { F.IsAlwaysCallable test }
     ensures { (p : ℕ → Bool) → ((x : ℕ) (r : Bool) → F.post test x r → r ≡ p x) → result ≡ Questions.every p xs.now }
@@ -124,12 +128,14 @@ fn sizes_in(sizes: &[u64]) -> bool
     every(sizes, |size| LEAST_SIZE <= size)
 }
 
+#[tactic(auto, unfolding(crate::specs::Questions::moment_in))]
 fn moment_in(now: u64) -> bool
     ensures { result ≡ Questions.moment_in now }
 {
     (now <= MOST_INSTANT) & (now % MS == 0)
 }
 
+#[tactic(auto, unfolding(crate::specs::Questions::probe_in))]
 fn probe_in(probe: Option<Bitrate>) -> bool
     ensures { result ≡ Questions.probe_in probe }
 {
@@ -151,6 +157,7 @@ impl<'a> Report<'a> {
         }
     }
 
+    #[tactic(auto, unfolding(crate::specs::Questions::lists_in))]
     pub fn lists_in(self) -> bool
         ensures { result ≡ Questions.lists_in self.entry.sequences.now self.entry.sizes.now self.entry.sends.now self.entry.remotes.now self.entry.receives.now }
     {
@@ -162,6 +169,7 @@ impl<'a> Report<'a> {
             & (n <= receive_order::MOST_PACKETS)
     }
 
+    #[tactic(auto, using(std::proofs::lemmas::Result::err_from_is_err_and), unfolding(crate::specs::Questions::of_report, crate::specs::Questions::first_no, crate::specs::Questions::instants_in, crate::specs::Questions::answer))]
     pub fn judge(self) -> Result<(), Refusal>
         ensures { Questions.number_or0 result ≡ Questions.first_no (Questions.of_report (Questions.report self.entry)) }
     {
@@ -183,6 +191,7 @@ pub fn bytes_in(sum: DataSize) -> bool
 }
 
 // ---- timeout: 7
+#[tactic(auto, unfolding(crate::specs::Questions::of_timeout, crate::specs::Questions::first_no, crate::specs::Questions::answer))]
 pub fn timeout(now: u64) -> Result<(), Refusal>
     ensures { Questions.number_or0 result ≡ Questions.first_no (Questions.of_timeout now) }
 {
