@@ -44,6 +44,7 @@ pub struct Weighed {
 }
 
 // What is left of an elapsed window after a gap of at least a window, in whole µs. The Rust panics at a window below 1 µs; here nothing is left.
+#[tactic(auto, unfolding(crate::specs::AckedBitrateEstimator::remaining))]
 fn remaining(elapsed: u64, window: u64) -> u64
     ensures { result ≡ Acked.remaining elapsed window }
 {
@@ -56,6 +57,7 @@ fn remaining(elapsed: u64, window: u64) -> u64
 
 impl Window {
     // The window after a gap without packets.
+    #[tactic(auto, unfolding(crate::specs::AckedBitrateEstimator::advance, time::specs::Time::saturating_add))]
     pub fn advance(self, gap: u64, window: u64) -> Self
         ensures { result ≡ Acked.advance self gap window }
     {
@@ -70,6 +72,7 @@ impl Window {
     }
 
     // The sample of a window that is full.
+    #[tactic(auto, unfolding(crate::specs::AckedBitrateEstimator::sample))]
     pub fn sample(self, window: u64) -> Option<Sample>
         ensures { result ≡ Acked.sample self window }
     {
@@ -83,6 +86,7 @@ impl Window {
     }
 
     // The window after its sample, with the packet that came.
+    #[tactic(auto, unfolding(crate::specs::AckedBitrateEstimator::with_packet))]
     pub fn with_packet(self, size: DataSize, window: u64) -> Self
         ensures { result ≡ Acked.with_packet self size window }
     {
@@ -100,6 +104,7 @@ impl Window {
 }
 
 // A small sample below the estimate counts as less certain.
+#[tactic(auto, unfolding(crate::specs::AckedBitrateEstimator::scale))]
 fn scale(is_small: bool, estimate: f64, sample: f64) -> f64
     ensures { result ≡ Acked.scale is_small estimate sample }
 {
@@ -110,6 +115,7 @@ fn scale(is_small: bool, estimate: f64, sample: f64) -> f64
 }
 
 // A bayesian estimate of the rate: the sample weighs less the further it is from the estimate.
+#[tactic(auto, unfolding(crate::specs::AckedBitrateEstimator::weigh))]
 pub fn weigh(estimate: f64, variance: f64, sample: f64, is_small: bool) -> Weighed
     ensures { result ≡ Acked.weigh estimate variance sample is_small }
 {
@@ -178,6 +184,7 @@ impl AckedBitrateEstimator {
     }
 
     // The first sample is the estimate; later ones are weighed.
+    #[tactic(auto, unfolding(crate::specs::AckedBitrateEstimator::with_sample))]
     fn with_sample(self, sample: Option<Sample>) -> Self
         ensures { result ≡ Acked.with_sample self sample }
     {
@@ -194,6 +201,7 @@ impl AckedBitrateEstimator {
     }
 
     // The first estimate wants the larger window.
+    #[tactic(auto, unfolding(crate::specs::AckedBitrateEstimator::window_length))]
     fn window_length(self) -> u64
         ensures { result ≡ Acked.window_length self }
     {
@@ -204,6 +212,7 @@ impl AckedBitrateEstimator {
     }
 
     // The packet joins the window, which gives its sample first where it is full.
+    #[tactic(auto, unfolding(crate::specs::AckedBitrateEstimator::filled))]
     fn filled(self, w: Window, receive_time: u64, packet_size: DataSize) -> Self
         ensures { result ≡ Acked.filled self w receive_time packet_size }
     {
@@ -213,6 +222,7 @@ impl AckedBitrateEstimator {
     }
 
     // A packet that was received at a remote instant. One earlier than the last clears the window, and its size is not added.
+    #[tactic(auto, unfolding(crate::specs::AckedBitrateEstimator::update))]
     pub fn update(self, receive_time: u64, packet_size: DataSize) -> Self
         ensures { result ≡ Acked.update self receive_time packet_size }
     {
