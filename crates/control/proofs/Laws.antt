@@ -21,3 +21,5 @@ module _ {S : Type 0} (f : S → ℕ → ℕ → S) (xs ys : List ℕ) (i : ℕ)
       none : (l : List ℕ) → fold f s l [] ≡ s
       none [] = refl
       none (x ∷ l) = refl
+
+pub ruleset fold_loop = (fold-turn, fold_end)

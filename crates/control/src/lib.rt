@@ -79,6 +79,7 @@ fn rate_anew(rate: RateControl) -> RateControl
 }
 
 // The greatest round trip of a report's packets, where there is one; what one list has more is left out.
+#[tactic(auto, using(crate::proofs::Laws::fold_loop))]
 fn max_rtt(local_send_times: &[u64], local_recv_times: &[u64]) -> Option<u64>
     ensures { result ≡ Control.max_rtt local_send_times.now local_recv_times.now }
 {
@@ -92,6 +93,7 @@ fn max_rtt(local_send_times: &[u64], local_recv_times: &[u64]) -> Option<u64>
 
 impl DelayDetector {
     // A report's packets in the order of receipt; what one list has more is left out.
+    #[tactic(auto, using(crate::proofs::Laws::fold_loop))]
     fn add_packets(self, local_send_times: &[u64], remote_recv_times: &[u64]) -> Self
         ensures { result ≡ Control.add_packets self local_send_times.now remote_recv_times.now }
     {
@@ -117,6 +119,7 @@ impl DelayDetector {
 impl DelayController {
     pub const RTT_SMOOTHING_FACTOR: f64 = 0.125;
 
+    #[tactic(auto, unfolding(crate::specs::Control::new))]
     pub fn new(initial_bitrate: Bitrate) -> Self
         ensures { result ≡ Control.new initial_bitrate }
     {
@@ -153,6 +156,7 @@ impl DelayController {
     }
 
     // The smoothed round trip in ns: the nearest, ties to even.
+    #[tactic(auto, unfolding(crate::specs::Control::get_smoothed_rtt))]
     pub fn get_smoothed_rtt(self) -> Option<u64>
         ensures { result ≡ Control.get_smoothed_rtt self }
     {
@@ -160,6 +164,7 @@ impl DelayController {
     }
 
     // The rate control after an update, and the next timeout.
+    #[tactic(auto, unfolding(crate::specs::Control::with_rate))]
     fn with_rate(self, rate_control: RateControl, next_timeout: u64) -> Self
         ensures { result ≡ Control.with_rate self rate_control next_timeout }
     {
@@ -171,6 +176,7 @@ impl DelayController {
     }
 
     // The smoothed round trip, at most 25 ms.
+    #[tactic(auto, unfolding(crate::specs::Control::wait))]
     fn wait(self) -> u64
         ensures { result ≡ Control.wait self }
     {
@@ -179,6 +185,7 @@ impl DelayController {
     }
 
     // Whether the hypothesis is not too old: at most twice the smoothed round trip, and at most 50 ms.
+    #[tactic(auto, unfolding(crate::specs::Control::trendline_hypothesis_valid, crate::specs::Control::wait))]
     fn trendline_hypothesis_valid(self, now: u64) -> bool
         ensures { result ≡ Control.trendline_hypothesis_valid self now }
     {
@@ -189,6 +196,7 @@ impl DelayController {
     }
 
     // A report: its packets in the order of receipt, the acknowledged rate, a probe's result or none, and the moment.
+    #[tactic(auto, unfolding(crate::specs::Control::update, crate::specs::Control::update_estimate, crate::specs::Control::with_packets, crate::specs::Control::with_rate, crate::specs::Control::get_smoothed_rtt, time::specs::Time::saturating_add))]
     pub fn update(
         self,
         local_send_times: &[u64],
@@ -226,6 +234,7 @@ impl DelayController {
     }
 
     // What a timeout changes. A hypothesis that is too old waits for the next report.
+    #[tactic(auto, unfolding(crate::specs::Control::handle_timeout, crate::specs::Control::update_estimate, crate::specs::Control::get_smoothed_rtt, time::specs::Time::saturating_add))]
     fn timed(self, acked_bitrate: Option<Bitrate>, now: u64) -> Timed
         ensures { Control.with_rate self result.rate_control result.next_timeout ≡ Control.handle_timeout self acked_bitrate now }
     {
@@ -289,6 +298,7 @@ fn rate_from(
 }
 
 // The smoothed round trip after a report's greatest.
+#[tactic(auto, unfolding(crate::specs::Control::update_rtt))]
 fn update_rtt(smoothed_rtt: MovingAverage, max_rtt: Option<u64>) -> MovingAverage
     ensures { result ≡ Control.update_rtt smoothed_rtt max_rtt }
 {
