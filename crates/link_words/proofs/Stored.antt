@@ -114,3 +114,5 @@ module _ (l : Link) (sized : Sized l.control.trendline_estimator.history) where
   words-stored w e =
       join (acked_words l.acked) (control_words l.control) (set w 0 1) 1 10 refl
       ∙ whole (to_words l) w (omega (arith, length-control l.control sized, e))
+
+pub ruleset parts = (history-stored, trendline-stored, control-stored)

@@ -333,6 +333,7 @@ fn store_groups(words: &mut [u64; 100], a: ArrivalGroupAccumulator)
     store_group(words, 17, a.current_group);
 }
 
+#[tactic(auto, using(crate::proofs::Stored::parts))]
 fn store_history(words: &mut [u64; 100], h: History)
     ensures { words.new ≡ sets words.old 24 (Words.history_words h) }
 {
@@ -375,6 +376,7 @@ fn store_overuse(
     words[76] = hypothesis as u64;
 }
 
+#[tactic(auto, using(crate::proofs::Stored::parts))]
 fn store_trendline(words: &mut [u64; 100], t: TrendlineEstimator)
     ensures { words.new ≡ sets words.old 22 (Words.trendline_words t) }
 {
@@ -402,6 +404,7 @@ fn store_rate_control(words: &mut [u64; 100], c: RateControl)
     store_option(words, 90, c.last_rtt);
 }
 
+#[tactic(auto, using(crate::proofs::Stored::parts), unfolding(crate::specs::LinkWords::round_trip_words))]
 fn store_control(words: &mut [u64; 100], c: DelayController)
     ensures { words.new ≡ sets words.old 10 (Words.control_words c) }
 {
