@@ -9,6 +9,7 @@ use Rattle.float_order.specs.Interval.{floats}
 use Rattle.float_order.specs.Range.{In, nat, in-closed, add-in, div-in}
 use Rattle.bool_laws.specs.Bools.{cases}
 use Rattle.seconds.specs.Seconds as Seconds
+use Rattle.std.specs.Ordering.{nat_cmp}
 use Rattle.std.specs.declared.cmp.Ordering.TheVariants.{Less, Equal, Greater}
 use Rattle.time.specs.declared.Timestamp.{Timestamp}
 use Rattle.time.specs.declared.Timestamp.TheVariants.{DistantPast, Exact, DistantFuture}
@@ -189,6 +190,16 @@ strict m n =
     (λ h. rw (lt-ltb m n h, le-leb m n (omega arith), ne_eqb m n (λ e. omega arith)))
     (λ h. rw (le-ltb m n (omega arith), le-leb m n (omega arith), eq-eqb m n h))
     (λ h. rw (le-ltb m n (omega arith), lt-leb m n h))
+
+-- the comparison of two numbers, by < alone
+pub compared : (m n : ℕ) → nat_cmp m n ≡ cond (nat_lt m n) Less (cond (nat_lt n m) Greater Equal)
+compared m n =
+    trichotomy
+    m
+    n
+    (λ h. rw (lt-ltb m n h))
+    (λ h. rw (le-ltb m n (omega arith), le-ltb n m (omega arith), eq-eqb m n h))
+    (λ h. rw (le-ltb m n (omega arith), lt-ltb n m h, ne_eqb m n (λ e. omega arith)))
 
 same_place : (a b : TimeDelta) → Within a → Within b → place_limited a ≡ place_limited b → a ≡ b
 unfolding place_limited
