@@ -8,7 +8,7 @@ ghost use Rattle.c_pass_file.specs.CPassFile as CPassFile;
 
 use pass_records::{FileRefusal, MOST_RECORDS};
 
-// A number of bytes, or the opposite of the number of the question that a file fails.
+// A number of bytes, or the opposite of the number of the question that a file fails: C gets no `Result`.
 fn code(answer: Result<usize, FileRefusal>) -> i64
     requires { IfOk answer (λ bytes. bytes ≤ 48 * most_records) }
     ensures { result ≡ CPassFile.code answer }

@@ -28,7 +28,7 @@ fn put_timeouts(file: &mut [u8]) {
     }
 }
 
-// A number, or the opposite of the number of a question, as C gets it.
+// A number, or the opposite of the number of a question: C gets no `Result`.
 fn code(question: u64, number: u64) -> i64 {
     match question {
         10..=13 => -(question as i64),

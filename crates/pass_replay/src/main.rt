@@ -9,7 +9,7 @@ use pass_records::FileRefusal;
 use std::io;
 use std::io::Read;
 
-// What the output holds before a file is listed.
+// What the output holds before a file is listed. Buffers are arrays, as a caller without a heap lends them.
 const UNWRITTEN: u8 = 0xa5;
 
 // More than any case needs, and more than one of up to 1,365 records does.
@@ -22,6 +22,7 @@ const SHORT_RECORDS: u16 = 1_365;
 // How much of a listing is read at a time.
 const PART: usize = 4_096;
 
+// As the file has it: a number of 0 stands beside a listing's length, and any other beside a length of 0, which `answers` compares too.
 #[derive(Clone, Copy)]
 struct Header {
     file: usize,
