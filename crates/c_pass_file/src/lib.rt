@@ -20,6 +20,7 @@ fn code(answer: Result<usize, FileRefusal>) -> i64
 }
 
 // Lists a pass file: the listing's length, or the opposite of the number of the question that the file fails.
+#[tactic(auto, using(crate::specs::CPassFile::short))]
 pub fn hornetpewter_list(file: &[u8], out: &mut [u8]) -> i64
     ensures value { result ≡ CPassFile.code (PassFile.list most_records file.now (length out.old)) }
     ensures out_after { out.new ≡ PassFile.output most_records file.now out.old }
@@ -28,6 +29,7 @@ pub fn hornetpewter_list(file: &[u8], out: &mut [u8]) -> i64
 }
 
 // How many bytes of output a pass file of so many bytes wants, or the opposite of 10.
+#[tactic(auto, using(crate::specs::CPassFile::short))]
 pub fn hornetpewter_room(file_length: usize) -> i64
     ensures { result ≡ CPassFile.room file_length }
 {
