@@ -1,6 +1,7 @@
 -- The loops over a report's lists, lists gathered in the order of receipt, and a report's first no.
 use Rattle.std.specs.Prelude.{Option, Some, None, Ok, Err, min}
 use Rattle.std.specs.Option.{ok_or}
+use Rattle.std.proofs.lemmas.Result.{err_from_is_err_and}
 use Prim.Native.Nat.{ℕ, zero, suc, ◌+◌, ◌<◌, ◌≤◌}
 use native.Mathlib.Numerals.{add-one}
 use native.Mathlib.Omega.{arith}
@@ -42,7 +43,7 @@ use Rattle.link.specs.Link.{
   timed_out,
   turned_down,
 }
-use Rattle.link.specs.Laws.{judged-number, judged-taken, outcome-refused}
+use Rattle.link.specs.Laws.{judged-number, judged-taken, outcome-refused, report-1, report-4, report-sorted, timeout-1, timeout-from-7}
 
 -- ---- packets to the acknowledged rate
 module _ (a : AckedBitrateEstimator) (remotes sizes : List ℕ) (i : ℕ) (hr : i < length remotes) (hs : i < length sizes) where
@@ -170,3 +171,9 @@ module _ (l : Link) (now : ℕ) where
       → control ≡ Control.handle_timeout l.control rate now → accepted_with (record { acked = l.acked; control = control }) ≡ outcome_unless (first_no (of_timeout now)) l (timed_out l now)
   unfolding outcome_unless timed_out
   timed-taken e er ec = rw (sym e, ec, er)
+
+-- ---- what the functions go by: the first no, and the room for what is gathered
+pub ruleset by_first_no =
+    (err_from_is_err_and, opening-refused, opening-taken, judged-before-9, judged-9, report-1, report-sorted, timeout-1, timeout-from-7, timed-refused, timed-taken)
+
+pub ruleset gathering = (report-4, gathered-room, gathered-length)

@@ -37,6 +37,7 @@ pub struct Opening {
 
 impl Opening {
     // Windows are ns.
+    #[tactic(auto, using(crate::proofs::Laws::by_first_no), unfolding(crate::specs::Link::link))]
     pub fn judge(
         start_bitrate: Bitrate,
         initial_window: u64,
@@ -52,6 +53,7 @@ impl Opening {
         })
     }
 
+    #[tactic(auto, unfolding(crate::specs::Link::link))]
     pub fn link(self) -> Link
         ensures { result ≡ Calls.link self }
     {
@@ -99,6 +101,7 @@ fn acknowledge(
 
 // ---- report
 // Questions 4 to 9 of a report whose packets stand in the order of receipt, and the estimator after it.
+#[tactic(auto, using(crate::proofs::Laws::by_first_no))]
 pub fn judge_report(
     acked: AckedBitrateEstimator,
     report: Report,
@@ -118,6 +121,7 @@ fn refused(refusal: Refusal, link: Link) -> Called
     }
 }
 
+#[tactic(auto, unfolding(crate::specs::Link::accepted_with))]
 fn accepted(link: Link) -> Called
     ensures { Calls.outcome result ≡ Calls.accepted_with link }
 {
@@ -157,6 +161,7 @@ fn report_in_order(link: Link, report: Report) -> Called
 }
 
 // A report to a link in range, its packets in any order.
+#[tactic(auto, using(crate::proofs::Laws::gathering))]
 fn report_unsorted(link: Link, report: Report) -> Called
     requires { in_range link ≡ true }
     ensures { Calls.outcome result ≡ Calls.report link (reported report.entry) }
@@ -180,6 +185,7 @@ fn report_unsorted(link: Link, report: Report) -> Called
     report_in_order(link, ordered)
 }
 
+#[tactic(auto, using(crate::proofs::Laws::by_first_no))]
 pub fn report(link: Link, report: Report) -> Called
     ensures { Calls.outcome result ≡ Calls.report link (reported report.entry) }
 {
@@ -193,6 +199,7 @@ pub fn report(link: Link, report: Report) -> Called
 }
 
 // ---- timeout
+#[tactic(auto, using(crate::proofs::Laws::by_first_no))]
 pub fn timeout(link: Link, now: u64) -> Called
     ensures { Calls.outcome result ≡ Calls.timeout link now }
 {
