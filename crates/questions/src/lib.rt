@@ -91,7 +91,7 @@ pub fn window_in(window: u64) -> bool
     (window % MS == 0) & (MS <= window) & (window <= MOST_WINDOW)
 }
 
-#[tactic(auto, using(std::proofs::lemmas::Result::err_from_is_err_and), unfolding(crate::specs::Questions::of_opening, crate::specs::Questions::first_no, crate::specs::Questions::answer))]
+#[tactic(auto, unfolding(crate::specs::Questions::of_opening, crate::specs::Questions::first_no, crate::specs::Questions::answer))]
 pub fn opening(start_bitrate: Bitrate, initial_window: u64, window: u64) -> Result<(), Refusal>
     ensures { Questions.number_or0 result ≡ Questions.first_no (Questions.of_opening start_bitrate initial_window window) }
 {
@@ -169,7 +169,7 @@ impl<'a> Report<'a> {
             & (n <= receive_order::MOST_PACKETS)
     }
 
-    #[tactic(auto, using(std::proofs::lemmas::Result::err_from_is_err_and), unfolding(crate::specs::Questions::of_report, crate::specs::Questions::first_no, crate::specs::Questions::instants_in, crate::specs::Questions::answer))]
+    #[tactic(auto, unfolding(crate::specs::Questions::of_report, crate::specs::Questions::first_no, crate::specs::Questions::instants_in, crate::specs::Questions::answer))]
     pub fn judge(self) -> Result<(), Refusal>
         ensures { Questions.number_or0 result ≡ Questions.first_no (Questions.of_report (Questions.report self.entry)) }
     {
