@@ -38,6 +38,7 @@ fn probe(record: Record) -> Option<Bitrate>
 }
 
 // Questions 4 to 9 of a report of the packets that wait, which are then in the order of receipt. If it is accepted, the acknowledged-rate estimator after it.
+#[tactic(auto, using(crate::proofs::Judging::judges))]
 fn judge_report(
     acked: AckedBitrateEstimator,
     waiting: &mut WaitingPackets,
