@@ -149,3 +149,9 @@ module _ (w : List ℕ) {l : Link} (loaded : l ≡ of_words w) where
 pub words-kept : (w : List ℕ) (k : Call) (q : Refusal) → reply_to w k ≡ refused (number q) → w ≡ after w k
 unfolding after
 words-kept w k q e = words-no q e _ w
+
+-- ---- what the functions go by: codes that fit, and what C gets for an answer
+pub ruleset codes = (to_z-of_z, fits, number-below, opposite, opposite-fits, kept)
+
+pub ruleset told =
+    (bitrate-no, bitrate-yes, code-no, code-yes, hypothesis-no, hypothesis-yes, next-timeout-no, next-timeout-yes, threshold-no, threshold-yes, words-no, read-in, read_out)

@@ -18,6 +18,7 @@ use questions::{Refusal, Report};
 
 // ---- what C gets
 // The opposite of a question's number: C gets no `Result`.
+#[tactic(auto, using(crate::proofs::Laws::codes))]
 fn code(refusal: Refusal) -> i64
     ensures { result ≡ neg_ℤ (pos (number refusal)) }
 {
@@ -37,6 +38,7 @@ fn tell(bitrate: &mut f64, hypothesis: &mut u32, next_timeout: &mut u64, control
 }
 
 // What a call gave, to the lent places.
+#[tactic(auto, using(crate::proofs::Laws::told))]
 fn store(
     link: &mut [u64; 100],
     bitrate: &mut f64,
@@ -64,6 +66,7 @@ fn store(
 
 // ---- a link
 // Opens a link at a rate in bps, with windows in ns.
+#[tactic(auto, using(crate::proofs::Laws::codes))]
 pub fn hornetpewter_open(
     link: &mut [u64; 100],
     start_bitrate: f64,
@@ -90,6 +93,7 @@ fn in_range(link: &[u64; 100], lent: Link) -> bool
     link_words::formed(link) & lent.in_range()
 }
 
+#[tactic(auto, unfolding(lent_calls::specs::LentCalls::probe_result))]
 fn probe_result(has_probe: u32, probe: f64) -> Option<Bitrate>
     ensures { result ≡ Lent.probe_result has_probe probe }
 {
@@ -202,6 +206,7 @@ pub fn hornetpewter_timeout(
 }
 
 // What a link holds, without a call: estimate in bps, hypothesis, next timeout in ns and delay threshold in ms.
+#[tactic(auto, using(crate::proofs::Laws::told))]
 pub fn hornetpewter_read(
     link: &[u64; 100],
     bitrate: &mut f64,
