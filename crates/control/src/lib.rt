@@ -79,28 +79,25 @@ fn rate_anew(rate: RateControl) -> RateControl
 }
 
 // The greatest round trip of a report's packets, where there is one; what one list has more is left out.
-#[tactic(auto, using(crate::proofs::Laws::fold_loop))]
 fn max_rtt(local_send_times: &[u64], local_recv_times: &[u64]) -> Option<u64>
     ensures { result ≡ Control.max_rtt local_send_times.now local_recv_times.now }
 {
     let mut max_rtt = None;
-    for i in 0..local_send_times.len().min(local_recv_times.len()) {
-        let rtt = local_recv_times[i].saturating_sub(local_send_times[i]);
-        max_rtt = time::longest(max_rtt, rtt);
+    for (send, receive) in local_send_times.iter().zip(local_recv_times) {
+        max_rtt = time::longest(max_rtt, receive.saturating_sub(*send));
     }
     max_rtt
 }
 
 impl DelayDetector {
     // A report's packets in the order of receipt; what one list has more is left out.
-    #[tactic(auto, using(crate::proofs::Laws::fold_loop))]
     fn add_packets(self, local_send_times: &[u64], remote_recv_times: &[u64]) -> Self
         ensures { result ≡ Control.add_packets self local_send_times.now remote_recv_times.now }
     {
         let mut accumulator = self.arrival_group_accumulator;
         let mut trendline = self.trendline_estimator;
-        for i in 0..local_send_times.len().min(remote_recv_times.len()) {
-            let done = accumulator.accumulate_packet(local_send_times[i], remote_recv_times[i]);
+        for (send, remote) in local_send_times.iter().zip(remote_recv_times) {
+            let done = accumulator.accumulate_packet(*send, *remote);
             accumulator = groups_anew(done.accumulator);
             if let Some(variation) = done.delta {
                 trendline = trendline.add_delay_observation(
@@ -189,10 +186,8 @@ impl DelayController {
     fn trendline_hypothesis_valid(self, now: u64) -> bool
         ensures { result ≡ Control.trendline_hypothesis_valid self now }
     {
-        let Some(last) = self.last_twcc_report else {
-            return false;
-        };
-        now.saturating_sub(last) <= 2 * self.wait()
+        self.last_twcc_report
+            .is_some_and(|last| now.saturating_sub(last) <= 2 * self.wait())
     }
 
     // A report: its packets in the order of receipt, the acknowledged rate, a probe's result or none, and the moment.
@@ -269,7 +264,7 @@ impl DelayController {
 fn rtt_of(smoothed_rtt: MovingAverage) -> Option<u64>
     ensures { result ≡ Control.rtt_of smoothed_rtt.average }
 {
-    Some(seconds::from_secs_f64(smoothed_rtt.get()?))
+    smoothed_rtt.get().map(seconds::from_secs_f64)
 }
 
 // A probe's result is applied as it is; else the observed rate, where there is one, goes to the rate control.
@@ -302,8 +297,7 @@ fn rate_from(
 fn update_rtt(smoothed_rtt: MovingAverage, max_rtt: Option<u64>) -> MovingAverage
     ensures { result ≡ Control.update_rtt smoothed_rtt max_rtt }
 {
-    match max_rtt {
-        None => smoothed_rtt,
-        Some(rtt) => smoothed_rtt.update(seconds::as_secs_f64(rtt)),
-    }
+    max_rtt.map_or(smoothed_rtt, |rtt| {
+        smoothed_rtt.update(seconds::as_secs_f64(rtt))
+    })
 }
