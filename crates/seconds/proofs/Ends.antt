@@ -1,14 +1,21 @@
 -- std's `Duration` holds from 0 to below 2 ^ 64 seconds: what it rounds, and what is past an end.
+use Rattle.std.specs.Prelude.{Result, Ok, Err}
 use Rattle.std.proofs.Common.{◌≡◌, ℕ, ◌-◌, ◌*◌, ◌^◌, ◌<◌, min, Bool, true, false, T, pos, refl, sym, arith}
 use Rattle.std.specs.Float.{Float, nan, inf, fin, binary64}
 use Rattle.std.specs.Float.Ieee.{up, down, le, lt, eq, of_bits}
 use Rattle.std.specs.Float.Ieee.Fits.{down_pos}
 use Rattle.std.specs.Float.Ieee.Nearest.{closest, closest_same}
+use Rattle.std.specs.Result.{OkIff, result_unwrap_or}
 use Rattle.std.specs.Duration.{FitsDurationSecs, nanos_of_secs}
 use Rattle.float_order.specs.Order.{ordered, is_true, lt-left→le, lt-taken→le, le-ordered-r}
 use Rattle.float_order.specs.Ops.{zero₊, nonneg-under}
 use Rattle.seconds.specs.Seconds.{from_secs_f64}
 use Rattle.seconds.specs.Laws.{ns-most, ns-mono}
+
+-- a u64 where it holds the number, and its last one where it doesn't
+pub held : {E : Type 0} (n : ℕ) (r : Result ℕ E) → OkIff r (n < 2 ^ 64) n → result_unwrap_or r (2 ^ 64 - 1) ≡ min n (2 ^ 64 - 1)
+held n (Ok x) h = omega arith
+held n (Err e) h = omega arith
 
 none-of : (a d : ℕ) → 0 < d → a ≡ 0 → closest (a * 1000000000) d ≡ 0
 none-of a d D z = rw z (closest_same 0 d 0 1 D (omega arith) (omega arith))
