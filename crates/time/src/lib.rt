@@ -248,20 +248,12 @@ impl Div<u32> for TimeDelta {
     fn div(self, rhs: u32) -> TimeDelta {
         match self.limited() {
             TimeDelta::NegativeInfinity => TimeDelta::NegativeInfinity,
-            TimeDelta::Negative(d) => {
-                if rhs == 0 {
-                    TimeDelta::NegativeInfinity
-                } else {
-                    TimeDelta::Negative(d / rhs as u64)
-                }
-            }
-            TimeDelta::Positive(d) => {
-                if rhs == 0 {
-                    TimeDelta::PositiveInfinity
-                } else {
-                    TimeDelta::Positive(d / rhs as u64)
-                }
-            }
+            TimeDelta::Negative(d) => d
+                .checked_div(rhs.into())
+                .map_or(TimeDelta::NegativeInfinity, TimeDelta::Negative),
+            TimeDelta::Positive(d) => d
+                .checked_div(rhs.into())
+                .map_or(TimeDelta::PositiveInfinity, TimeDelta::Positive),
             TimeDelta::PositiveInfinity => TimeDelta::PositiveInfinity,
         }
     }
@@ -298,11 +290,7 @@ impl Timestamp {
     pub fn is_exact(self) -> bool
         ensures { result ≡ Time.is_exact self }
     {
-        match self {
-            Timestamp::DistantPast => false,
-            Timestamp::Exact(t) => t <= MAX,
-            Timestamp::DistantFuture => false,
-        }
+        matches!(self, Timestamp::Exact(t) if t <= MAX)
     }
 
     #[tactic(auto, unfolding(crate::specs::Time::limited_instant))]
@@ -339,13 +327,9 @@ impl Timestamp {
             (Timestamp::DistantFuture, _) => Timestamp::DistantFuture,
             (Timestamp::DistantPast, _) => Timestamp::DistantPast,
             (Timestamp::Exact(_), TimeDelta::NegativeInfinity) => Timestamp::DistantPast,
-            (Timestamp::Exact(t), TimeDelta::Negative(d)) => {
-                if t < d {
-                    Timestamp::DistantPast
-                } else {
-                    Timestamp::Exact(t - d)
-                }
-            }
+            (Timestamp::Exact(t), TimeDelta::Negative(d)) => t
+                .checked_sub(d)
+                .map_or(Timestamp::DistantPast, Timestamp::Exact),
             (Timestamp::Exact(t), TimeDelta::Positive(d)) => Timestamp::from(t + d),
         }
     }
