@@ -28,12 +28,9 @@ impl MovingAverage {
     pub fn within_std(self, value: f64, num_std: f64) -> bool
         ensures { result ≡ Average.within_std self value num_std }
     {
-        let Some(average) = self.average else {
-            return false;
-        };
-        let floor = average - self.std * num_std;
-        let ceil = average + self.std * num_std;
-        (floor <= value) & (value <= ceil)
+        let spread = self.std * num_std;
+        self.average.is_some_and(|average| (average - spread <= value)
+            & (value <= average + spread))
     }
 
     #[tactic(auto, unfolding(crate::specs::Average::upper_range))]
@@ -46,6 +43,7 @@ impl MovingAverage {
         Some(self.average? + num_std * self.std)
     }
 
+    // Not `self.upper_range(-num_std)`: that a rounded difference is the rounded sum with the opposite would be one more thing to know.
     #[tactic(auto, unfolding(crate::specs::Average::lower_range))]
     pub fn lower_range(self, num_std: f64) -> Option<f64>
         ensures { result ≡ Average.lower_range self num_std }
