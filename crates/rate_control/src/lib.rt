@@ -6,9 +6,11 @@ ghost use Rattle.rate_control.specs.RateControl as Rate;
 
 use average::MovingAverage;
 use bandwidth::{BandwidthUsage, Bitrate};
+use std::time::Duration;
 
 const DEFAULT_BACKOFF_TIME: u64 = 100_000_000;
 
+// The values of `BandwidthUsage`, in a type of its own: both are public, and the Rust has two.
 #[derive(Clone, Copy)]
 pub enum Signal {
     Overuse,
@@ -74,16 +76,14 @@ fn reduction_interval(rtt: u64) -> u64
     rtt.clamp(10_000_000, 200_000_000)
 }
 
-// Seconds of a round trip and 100 ms, which are added first: in whole seconds and the rest, so that no sum is too large.
+// Seconds of a round trip and 100 ms, which are added first: a `Duration` holds every such sum.
 fn response_time(rtt: u64) -> f64
     ensures { result ≡ Rate.response_time rtt }
 {
-    let rest = rtt % 1_000_000_000 + DEFAULT_BACKOFF_TIME;
-    ((rtt / 1_000_000_000 + rest / 1_000_000_000) as f64)
-        + ((rest % 1_000_000_000) as f64) / 1_000_000_000.0
+    (Duration::from_nanos(rtt) + Duration::from_nanos(DEFAULT_BACKOFF_TIME)).as_secs_f64()
 }
 
-// The average, anew where a value lies below its range.
+// The average, anew where a value lies below its range. No function for both ends: it would take the range and the comparison as closures, and be no shorter.
 #[tactic(auto, unfolding(crate::specs::RateControl::reset_below))]
 fn reset_below(average: MovingAverage, value: f64) -> MovingAverage
     ensures { result ≡ Rate.reset_below average value }
@@ -204,11 +204,10 @@ impl RateControl {
     fn is_near_convergence(self) -> bool
         ensures { result ≡ Rate.is_near_convergence self }
     {
-        let Some(observed) = self.last_observed_bitrate else {
-            return false;
-        };
-        self.averaged_observed_bitrate
-            .within_std(observed.as_f64(), 3.0)
+        self.last_observed_bitrate.is_some_and(|observed| {
+            self.averaged_observed_bitrate
+                .within_std(observed.as_f64(), 3.0)
+        })
     }
 
     // Bits of a packet of a frame, of 30 frames a second.
