@@ -48,11 +48,7 @@ pub struct Weighed {
 fn remaining(elapsed: u64, window: u64) -> u64
     ensures { result ≡ Acked.remaining elapsed window }
 {
-    let micros = window / 1000;
-    if micros == 0 {
-        return 0;
-    }
-    elapsed / 1000 % micros * 1000
+    (elapsed / 1000).checked_rem(window / 1000).unwrap_or(0) * 1000
 }
 
 impl Window {
@@ -142,6 +138,7 @@ impl AckedBitrateEstimator {
 
     pub const ESTIMATE_FLOOR: f64 = 40_000.0;
 
+    // Two parameters, as the Rust's `new` has them: a struct of both would be no plainer where a caller gives two numbers.
     pub fn new(initial_window: u64, window: u64) -> Self
         ensures { result ≡ Acked.new initial_window window }
     {
