@@ -45,7 +45,7 @@ impl Bitrate {
         self.0
     }
 
-    // By hand: std's `clamp` is that of `Ord`, which no float has.
+    // A method of its own: std's `clamp` is that of `Ord`, which no float has.
     #[tactic(auto, unfolding(crate::specs::Bandwidth::clamp))]
     pub fn clamp(self, min: Bitrate, max: Bitrate) -> Self
         ensures { result ≡ B.clamp self min max }

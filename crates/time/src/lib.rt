@@ -284,8 +284,7 @@ impl From<u64> for Timestamp {
     }
 }
 
-// Its conversion, limits, places, comparisons and sums are written as those of `TimeDelta` are: a trait of both would have no body to share, and Rust has no
-// `PartialEq` or `From` for all types of a trait.
+// Its conversion, limits, places, comparisons and sums are written as those of `TimeDelta` are: Rust allows no `PartialEq`, `Ord` or `From` for all types of a trait.
 impl Timestamp {
     pub fn is_exact(self) -> bool
         ensures { result ≡ Time.is_exact self }
