@@ -1,7 +1,7 @@
 // The state of a link, and document 01's question 1: whether a lent one is in range. Whatever it holds, the test is defined.
 #![tactic(auto)]
 
-ghost use Rattle.std.specs.Prelude.{◌&&◌, ◌≡◌, ◌≤◌, take};
+ghost use Rattle.std.specs.Prelude.{◌&&◌, ◌≡◌, length};
 ghost use Rattle.std.specs.Float.Ieee as Ieee;
 ghost use Rattle.link_state.specs.State as State;
 
@@ -46,7 +46,7 @@ fn ns_in(ns: Option<u64>) -> bool
 fn sum_in(sum: DataSize, elapsed: u64) -> bool
     ensures { result ≡ State.sum_in sum elapsed }
 {
-    !(sum < DataSize::ZERO) & questions::bytes_in(sum) & ((DataSize::ZERO < sum) | (elapsed == 0))
+    (DataSize::ZERO <= sum) & questions::bytes_in(sum) & ((DataSize::ZERO < sum) | (elapsed == 0))
 }
 
 fn average_within(most: f64, average: Option<f64>) -> bool
@@ -105,17 +105,16 @@ fn groups_in(a: ArrivalGroupAccumulator) -> bool
 }
 
 // ---- the trendline
-// The first n timings: times in order within ±10^12, delays within ±10^31. Every turn tests the same, so that LLVM takes two at once where n is known.
-#[tactic(auto, using(crate::proofs::Laws::timings_loop))]
-fn timings_in(times: [f64; 20], delays: [f64; 20], n: usize) -> bool
-    requires { n ≤ 20 }
-    ensures { result ≡ (State.ascends (Ieee.neg State.most_time) (take n times) State.most_time && State.all_within State.most31 (take n delays)) }
+// Times in order within ±10^12, delays within ±10^31. Every turn tests the same, so that LLVM takes two at once where their number is known.
+fn timings_in(times: &[f64], delays: &[f64]) -> bool
+    requires { length delays.now ≡ length times.now }
+    ensures { result ≡ (State.ascends (Ieee.neg State.most_time) times.now State.most_time && State.all_within State.most31 delays.now) }
 {
     let mut all = true;
     let mut low = -MOST_TIME;
-    for i in 0..n {
-        all &= (low <= times[i]) & float::within(-MOST_31, MOST_31, delays[i]);
-        low = times[i];
+    for (time, delay) in times.iter().zip(delays) {
+        all &= (low <= *time) & float::within(-MOST_31, MOST_31, *delay);
+        low = *time;
     }
     all & (low <= MOST_TIME)
 }
@@ -125,12 +124,12 @@ fn history_in(h: History) -> bool
     ensures { result ≡ State.history_in h }
 {
     match h.len {
-        20 => timings_in(h.times, h.delays, 20),
-        n => (n < 20) && timings_in(h.times, h.delays, n),
+        20 => timings_in(&h.times, &h.delays),
+        n => (n < 20) && timings_in(&h.times[..n], &h.delays[..n]),
     }
 }
 
-#[tactic(auto, unfolding(crate::specs::State::delays_in))]
+#[tactic(auto, using(crate::proofs::Laws::no_nan), unfolding(crate::specs::State::delays_in))]
 fn delays_in(d: Delays) -> bool
     ensures { result ≡ State.delays_in d }
 {
@@ -142,7 +141,7 @@ fn delays_in(d: Delays) -> bool
             Delays::MAX_THRESHOLD_MS,
             d.delay_threshold,
         )
-        & (d.previous_trend == d.previous_trend)
+        & !d.previous_trend.is_nan()
 }
 
 fn overuse_time_in(time: TimeDelta) -> bool

@@ -10,7 +10,7 @@ use receive_order::Keys;
 // The question that turned a call down.
 #[derive(Clone, Copy, Debug, PartialEq, Eq)]
 pub enum Refusal {
-    OutOfRange,
+    OutOfRange = 1,
     BadStartBitrate,
     BadWindow,
     BadLists,
@@ -26,17 +26,7 @@ impl From<Refusal> for u64 {
     ghost from_gives = { λ refusal n. n ≡ Questions.number refusal };
 
     fn from(refusal: Refusal) -> u64 {
-        match refusal {
-            Refusal::OutOfRange => 1,
-            Refusal::BadStartBitrate => 2,
-            Refusal::BadWindow => 3,
-            Refusal::BadLists => 4,
-            Refusal::BadInstant => 5,
-            Refusal::BadSize => 6,
-            Refusal::BadMoment => 7,
-            Refusal::BadProbe => 8,
-            Refusal::TooManyBytes => 9,
-        }
+        refusal as u64
     }
 }
 
@@ -139,10 +129,7 @@ fn moment_in(now: u64) -> bool
 fn probe_in(probe: Option<Bitrate>) -> bool
     ensures { result ≡ Questions.probe_in probe }
 {
-    match probe {
-        None => true,
-        Some(rate) => rate.within(Bitrate::ZERO, Bitrate::MOST),
-    }
+    probe.is_none_or(|rate| rate.within(Bitrate::ZERO, Bitrate::MOST))
 }
 
 impl<'a> Report<'a> {
@@ -187,7 +174,7 @@ impl<'a> Report<'a> {
 pub fn bytes_in(sum: DataSize) -> bool
     ensures { result ≡ Questions.bytes_in sum }
 {
-    !(DataSize::MOST < sum)
+    sum <= DataSize::MOST
 }
 
 // ---- timeout: 7
