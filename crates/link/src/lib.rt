@@ -68,7 +68,7 @@ impl Opening {
 fn data_size(n: u64) -> DataSize
     ensures { result ≡ Calls.data_size n }
 {
-    DataSize(n.min(i64::MAX as u64) as i64)
+    DataSize(i64::try_from(n).unwrap_or(i64::MAX))
 }
 
 fn acked_anew(acked: AckedBitrateEstimator) -> AckedBitrateEstimator
