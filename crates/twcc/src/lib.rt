@@ -19,9 +19,9 @@ pub struct Header {
 // The question that a message fails.
 #[derive(Clone, Copy, Debug, PartialEq, Eq)]
 pub enum Refusal {
-    CutShort,
-    Reserved,
-    NoStatus,
+    CutShort = 14,
+    Reserved = 15,
+    NoStatus = 16,
 }
 
 // A packet that a message tells of: its sequence number, and if it was received its time in ticks of 250 µs from the reference.
@@ -50,11 +50,7 @@ impl From<Refusal> for u64 {
     ghost from_gives = { λ refusal n. n ≡ Feedback.refusal_number refusal };
 
     fn from(refusal: Refusal) -> u64 {
-        match refusal {
-            Refusal::CutShort => 14,
-            Refusal::Reserved => 15,
-            Refusal::NoStatus => 16,
-        }
+        refusal as u64
     }
 }
 
@@ -62,22 +58,17 @@ impl From<Refusal> for u64 {
 pub fn read_u16(bytes: &[u8], at: usize) -> u16
     ensures { result ≡ Feedback.read_u16 bytes.now at }
 {
-    if bytes.len() <= at {
-        return 0;
-    }
-    let low = if bytes.len() - at < 2 {
-        0
-    } else {
-        bytes[at + 1]
-    };
-    u16::from_be_bytes([bytes[at], low])
+    u16::from_be_bytes([
+        le_bytes::read_u8(bytes, at),
+        le_bytes::read_u8(bytes, at.saturating_add(1)),
+    ])
 }
 
 // Whether n bytes from a place on run past the end.
 pub fn cut_short(bytes: &[u8], at: usize, n: usize) -> bool
     ensures { result ≡ ltb (length bytes.now) (at + n) }
 {
-    bytes.len() < at || bytes.len() - at < n
+    bytes.len().checked_sub(at).is_none_or(|rest| rest < n)
 }
 
 // What a message's header says.
@@ -110,7 +101,7 @@ fn judge_chunks(message: &[u8], count: u16) -> Result<Deltas, Refusal>
     let mut bytes: usize = 0;
     // No `for` over the chunks: the count ends it, and the place after the last one is part of what it gives.
     while 0 < left {
-        if message.len() - at < 2 {
+        if cut_short(message, at, 2) {
             return Err(Refusal::CutShort);
         }
         let chunk = read_u16(message, at);
