@@ -7,19 +7,20 @@ ghost use Rattle.feedback_lists.specs.Lists as Lists;
 ghost use Rattle.feedback_lists.specs.Run as Run;
 
 use feedback_reader::{Cursor, Place};
+use status_chunk::{Kind, Symbol};
 
 // How many packets of a run of small deltas are at hand, whose deltas are in a message of that length and which so many places have room for; 0 in another chunk.
 fn run_at_hand(length: usize, places: usize, cursor: Cursor) -> usize
     ensures { Run.AtHand length places cursor result }
 {
     let place = cursor.place;
-    if place.chunk < 0x2000 || 0x4000 <= place.chunk || length < cursor.next_delta {
+    let Kind::Run(Symbol::SmallDelta, _) = Kind::from(place.chunk) else {
         return 0;
-    }
+    };
     let packets = place.symbols_left.min(cursor.packets_left);
     usize::from(packets)
         .min(places)
-        .min(length - cursor.next_delta)
+        .min(length.saturating_sub(cursor.next_delta))
 }
 
 // Hands out n packets of a run of small deltas, from a place of the lists on.

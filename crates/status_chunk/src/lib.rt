@@ -3,6 +3,7 @@
 
 ghost use Rattle.std.specs.Prelude.{◌≡◌, ◌+◌, ◌-◌, ◌*◌, ◌/◌, ◌%◌, ◌^◌, ◌<◌, ◌≤◌, ◌⊎◌, min, take};
 ghost use Rattle.status_chunk.specs.Chunk as Chunk;
+ghost use Rattle.status_chunk.specs.Kinds as Kinds;
 
 // From here on the top bit is 1: a status vector.
 const STATUS_VECTOR: u16 = 0x8000;
@@ -40,18 +41,36 @@ impl Symbol {
     }
 }
 
+// A chunk by its kind: a run of a symbol, and how many of it; or a status vector, its symbols in the low 14 of the chunk's bits.
+#[derive(Clone, Copy, Debug, PartialEq, Eq)]
+pub enum Kind {
+    Run(Symbol, u16),
+    OneBit(u16),
+    TwoBit(u16),
+}
+
+impl From<u16> for Kind {
+    ghost from_gives = { λ chunk kind. Kinds.Tells chunk kind };
+
+    fn from(chunk: u16) -> Kind {
+        match chunk {
+            0..STATUS_VECTOR => Kind::Run(Symbol::of_bits(chunk / 8192), chunk % 8192),
+            STATUS_VECTOR..TWO_BIT_VECTOR => Kind::OneBit(chunk),
+            _ => Kind::TwoBit(chunk),
+        }
+    }
+}
+
 // How many symbols a chunk has.
 #[tactic(auto, unfolding(crate::specs::Chunk::symbol_count))]
 pub fn symbol_count(chunk: u16) -> u16
     ensures { result ≡ Chunk.symbol_count chunk }
 {
-    if chunk < STATUS_VECTOR {
-        return chunk % 8192;
+    match Kind::from(chunk) {
+        Kind::Run(_, count) => count,
+        Kind::OneBit(_) => 14,
+        Kind::TwoBit(_) => 7,
     }
-    if chunk < TWO_BIT_VECTOR {
-        return 14;
-    }
-    7
 }
 
 // The first of so many symbols that are left of a chunk; the first of all where it has not so many.
@@ -59,16 +78,14 @@ pub fn symbol_count(chunk: u16) -> u16
 pub fn symbol_left(chunk: u16, left: u16) -> Symbol
     ensures { Chunk.number result ≡ Chunk.symbol_left chunk left }
 {
-    if chunk < STATUS_VECTOR {
-        return Symbol::of_bits(chunk / 8192);
+    match Kind::from(chunk) {
+        Kind::Run(symbol, _) => symbol,
+        Kind::OneBit(vector) => Symbol::of_bits(bits_left(vector, 1, left)),
+        Kind::TwoBit(vector) => Symbol::of_bits(bits_left(vector, 2, left)),
     }
-    if chunk < TWO_BIT_VECTOR {
-        return Symbol::of_bits(bits_left(chunk, 1, left));
-    }
-    Symbol::of_bits(bits_left(chunk, 2, left))
 }
 
-// The same of a status vector whose symbols have so many bits, and the bits of the symbol.
+// The same of a status vector whose symbols have so many bits, and the bits of the symbol. `bits`, 1 or 2, is no kind's number: it is computed with.
 fn bits_left(chunk: u16, bits: u16, left: u16) -> u16
     requires { (bits ≡ 1) ⊎ (bits ≡ 2) }
     ensures { result ≡ Chunk.vector_symbol bits chunk (14 / bits - left) }
@@ -90,13 +107,11 @@ pub fn delta_bytes(chunk: u16, n: u16) -> usize
     ensures { result ≡ Chunk.delta_bytes (take n (Chunk.symbols_of chunk)) }
 {
     let all = covered(chunk, n);
-    if chunk < STATUS_VECTOR {
-        return all as usize * (chunk / 8192) as usize;
+    match Kind::from(chunk) {
+        Kind::Run(symbol, _) => all as usize * symbol.byte_len(),
+        Kind::OneBit(vector) => ones(vector, all),
+        Kind::TwoBit(vector) => two_bit_bytes(vector, all),
     }
-    if chunk < TWO_BIT_VECTOR {
-        return ones(chunk, all);
-    }
-    two_bit_bytes(chunk, all)
 }
 
 // The bytes of a vector of one-bit symbols: its ones.
@@ -128,13 +143,11 @@ pub fn any_reserved(chunk: u16, n: u16) -> bool
     ensures { result ≡ Chunk.any_reserved (take n (Chunk.symbols_of chunk)) }
 {
     let all = covered(chunk, n);
-    if chunk < STATUS_VECTOR {
-        return (0 < all) & (chunk / 8192 == Symbol::Reserved as u16);
+    match Kind::from(chunk) {
+        Kind::Run(symbol, _) => 0 < all && symbol == Symbol::Reserved,
+        Kind::OneBit(_) => false,
+        Kind::TwoBit(vector) => two_bit_reserved(vector, all),
     }
-    if chunk < TWO_BIT_VECTOR {
-        return false;
-    }
-    two_bit_reserved(chunk, all)
 }
 
 // The same of a vector of two-bit symbols.
