@@ -1,4 +1,4 @@
-// What programs in C or Rust call to read feedback messages (rt staticlib c_feedback). A slice is a pointer and a length; a reader is seven words that the caller lends, beside the message
+// What programs in C or Rust call to read feedback messages, by the exports of `c_feedback_c`. A slice is a pointer and a length; a reader is seven words that the caller lends, beside the message
 // that it was started on. Any words are met with an answer: a word counts modulo the size of its number's type.
 //
 //   0 next_chunk   1 chunk   2 symbols_left   3 next_delta   4 packets_left   5 next_sequence   6 ticks
@@ -59,6 +59,7 @@ pub fn hornetpewter_feedback_start(
     ensures reference_time_after { reference_time.new ≡ CFeedback.reference_time (judge message.now) reference_time.old }
     ensures feedback_count_after { feedback_count.new ≡ CFeedback.feedback_count (judge message.now) feedback_count.old }
 {
+    // The opposite of a refusal's number is written out here, as in `c_api` and `c_pass_file`: one function for the three would want a crate of its own for this line, since no crate with code stands below all three.
     match feedback_reader::start(message) {
         Ok(started) => {
             let header = started.header;

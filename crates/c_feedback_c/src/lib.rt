@@ -1,4 +1,5 @@
-// What programs in C or Rust call for reading feedback messages: each export is the function of that name of `c_feedback`. A slice is a pointer and a length.
+// What programs in C or Rust call for reading feedback messages: each export is the function of that name of `c_feedback`, once more since a crate is a library or a static library and not both.
+// A slice is a pointer and a length.
 #![tactic(auto)]
 
 ghost use Rattle.std.specs.Prelude.{◌≡◌, pos, length};

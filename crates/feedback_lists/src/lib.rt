@@ -1,4 +1,4 @@
-// Packets of a feedback message handed out to lent lists: statuses and ticks apart, as C lends them.
+// Packets of a feedback message handed out to lent lists: message and cursor, statuses and ticks apart, as C lends them.
 #![tactic(auto)]
 
 ghost use Rattle.std.specs.Prelude.{◌≡◌, ◌+◌, ◌≤◌, length, replicate};
@@ -35,6 +35,7 @@ fn read_run(message: &[u8], cursor: &mut Cursor, statuses: &mut [u8], ticks: &mu
     let end = cursor.next_delta + n;
     statuses.fill(1);
     let mut sum = cursor.ticks;
+    // No `zip` with `ticks.iter_mut()`: tried, and a proof knows nothing of what is written through an adapter of `iter_mut`.
     for (i, delta) in message[cursor.next_delta..end].iter().enumerate() {
         sum = sum.wrapping_add(u32::from(*delta));
         ticks[i] = sum.cast_signed();

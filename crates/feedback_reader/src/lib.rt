@@ -1,5 +1,5 @@
 // A reader of feedback messages: started by judging, it hands out the packets one by one.
-// `start` and `step` work on a plain slice and a cursor; a FeedbackReader holds both.
+// `start` and `step` take the message and the cursor apart, since C keeps the cursor alone, in words that it lends beside the message, and has the header from its start; a FeedbackReader holds both, for Rust.
 #![tactic(auto)]
 
 ghost use Rattle.std.specs.Prelude.{◌≡◌, ◌+◌, ◌<◌, ◌≤◌, length, drop};

@@ -36,7 +36,7 @@ fn put_first_in_order(
     );
 }
 
-// Five lists of one length, each at the start of its array. No heap, so an array holds as many as may be.
+// Five lists of one length, since a report lends five lists, as C does; each at the start of its array. No heap, so an array holds as many as may be.
 #[derive(Drop)]
 pub struct WaitingPackets {
     len: usize,
