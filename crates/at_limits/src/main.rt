@@ -82,39 +82,54 @@ fn lent(word: usize, value: u64) -> [u64; 100] {
     link
 }
 
-// Whether a call gave C a code, and left what it has to: after 0 what a read of the link tells, else all as it was, 7 at the lent places.
+// The places that C lends for an estimate.
+#[derive(Clone, Copy, PartialEq)]
+struct Places {
+    bitrate: f64,
+    hypothesis: u32,
+    next_timeout: u64,
+}
+
+impl Places {
+    // As they are before a call.
+    fn new() -> Self {
+        Self {
+            bitrate: 7.0,
+            hypothesis: 7,
+            next_timeout: 7,
+        }
+    }
+
+    fn print(self, rt: &impl Print) -> io::Result<()> {
+        number(rt, self.hypothesis as u64)?;
+        number(rt, self.next_timeout)
+    }
+}
+
+// Whether a call gave C a code, and left what it has to: after 0 what a read of the link tells, else all as it was.
 fn left(
     rt: &impl Print,
     code: i64,
     expected: i64,
     before: &[u64; 100],
     link: &[u64; 100],
-    bitrate: f64,
-    hypothesis: u32,
-    next_timeout: u64,
+    places: Places,
 ) -> io::Result<()> {
-    let mut rate = 7.0;
-    let mut tag = 7;
-    let mut next = 7;
+    let mut told = Places::new();
     let mut threshold = 7.0;
     if code == 0 {
-        let read = c_api::hornetpewter_read(link, &mut rate, &mut tag, &mut next, &mut threshold);
-        return yes_or_no(
-            rt,
-            (expected == 0)
-                & (read == 0)
-                & (bitrate == rate)
-                & (hypothesis == tag)
-                & (next_timeout == next),
+        let read = c_api::hornetpewter_read(
+            link,
+            &mut told.bitrate,
+            &mut told.hypothesis,
+            &mut told.next_timeout,
+            &mut threshold,
         );
+        return yes_or_no(rt, (expected == 0) & (read == 0) & (places == told));
     }
     yes_or_no(
         rt,
-        (code == expected)
-            & (*link == *before)
-            & (bitrate == rate)
-            & (hypothesis == tag)
-            & (next_timeout == next),
+        (code == expected) & (*link == *before) & (places == told),
     )
 }
 
@@ -131,9 +146,7 @@ fn lent_report(
 ) -> io::Result<()> {
     let before = lent(0, 1);
     let mut link = before;
-    let mut bitrate = 7.0;
-    let mut hypothesis = 7;
-    let mut next_timeout = 7;
+    let mut places = Places::new();
     let code = c_api::hornetpewter_report(
         &mut link,
         sequences,
@@ -144,20 +157,11 @@ fn lent_report(
         has_probe,
         probe,
         moment,
-        &mut bitrate,
-        &mut hypothesis,
-        &mut next_timeout,
+        &mut places.bitrate,
+        &mut places.hypothesis,
+        &mut places.next_timeout,
     );
-    left(
-        rt,
-        code,
-        expected,
-        &before,
-        &link,
-        bitrate,
-        hypothesis,
-        next_timeout,
-    )
+    left(rt, code, expected, &before, &link, places)
 }
 
 fn lent_timeout(
@@ -169,26 +173,15 @@ fn lent_timeout(
 ) -> io::Result<()> {
     let before = lent(word, value);
     let mut link = before;
-    let mut bitrate = 7.0;
-    let mut hypothesis = 7;
-    let mut next_timeout = 7;
+    let mut places = Places::new();
     let code = c_api::hornetpewter_timeout(
         &mut link,
         moment,
-        &mut bitrate,
-        &mut hypothesis,
-        &mut next_timeout,
+        &mut places.bitrate,
+        &mut places.hypothesis,
+        &mut places.next_timeout,
     );
-    left(
-        rt,
-        code,
-        expected,
-        &before,
-        &link,
-        bitrate,
-        hypothesis,
-        next_timeout,
-    )
+    left(rt, code, expected, &before, &link, places)
 }
 
 // Of one packet.
@@ -285,42 +278,36 @@ fn read(
     expected_threshold: f64,
 ) -> io::Result<()> {
     let link = lent(word, value);
-    let mut bitrate = 7.0;
-    let mut hypothesis = 7;
-    let mut next_timeout = 7;
+    let mut places = Places::new();
     let mut threshold = 7.0;
     let code = c_api::hornetpewter_read(
         &link,
-        &mut bitrate,
-        &mut hypothesis,
-        &mut next_timeout,
+        &mut places.bitrate,
+        &mut places.hypothesis,
+        &mut places.next_timeout,
         &mut threshold,
     );
     yes_or_no(
         rt,
-        (code == expected) & (bitrate == rate) & (threshold == expected_threshold),
+        (code == expected) & (places.bitrate == rate) & (threshold == expected_threshold),
     )?;
-    number(rt, hypothesis as u64)?;
-    number(rt, next_timeout)
+    places.print(rt)
 }
 
 // The example of document 01, by calls: a timeout at 1 s, then a report of no packets with a probe of 2,000,000 bps at 1.01 s.
 fn example(rt: &impl Print) -> io::Result<()> {
     let none: &[u64] = &[];
     let mut link = lent(0, 1);
-    let mut bitrate = 7.0;
-    let mut hypothesis = 7;
-    let mut next_timeout = 7;
+    let mut places = Places::new();
     let first = c_api::hornetpewter_timeout(
         &mut link,
         1_000_000_000,
-        &mut bitrate,
-        &mut hypothesis,
-        &mut next_timeout,
+        &mut places.bitrate,
+        &mut places.hypothesis,
+        &mut places.next_timeout,
     );
-    yes_or_no(rt, (first == 0) & (bitrate == 1_000_000.0))?;
-    number(rt, hypothesis as u64)?;
-    number(rt, next_timeout)?;
+    yes_or_no(rt, (first == 0) & (places.bitrate == 1_000_000.0))?;
+    places.print(rt)?;
     let second = c_api::hornetpewter_report(
         &mut link,
         none,
@@ -331,13 +318,12 @@ fn example(rt: &impl Print) -> io::Result<()> {
         1,
         2_000_000.0,
         1_010_000_000,
-        &mut bitrate,
-        &mut hypothesis,
-        &mut next_timeout,
+        &mut places.bitrate,
+        &mut places.hypothesis,
+        &mut places.next_timeout,
     );
-    yes_or_no(rt, (second == 0) & (bitrate == 2_000_000.0))?;
-    number(rt, hypothesis as u64)?;
-    number(rt, next_timeout)
+    yes_or_no(rt, (second == 0) & (places.bitrate == 2_000_000.0))?;
+    places.print(rt)
 }
 
 fn reads(rt: &impl Print) -> io::Result<()> {
