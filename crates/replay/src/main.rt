@@ -33,6 +33,17 @@ fn module(op: u64) -> usize
     7
 }
 
+const NAMES: [&str; 8] = [
+    "time",
+    "average",
+    "acked_bitrate_estimator",
+    "arrival_group",
+    "trendline",
+    "rate_control",
+    "control",
+    "bandwidth",
+];
+
 // The counts of each of the eight modules, and of all.
 #[derive(Clone, Copy)]
 struct Modules {
@@ -60,15 +71,9 @@ impl Modules {
     }
 
     fn print(self, rt: &impl Print) -> io::Result<()> {
-        let c = self.counts;
-        c[0].print(rt, b"time")?;
-        c[1].print(rt, b"average")?;
-        c[2].print(rt, b"acked_bitrate_estimator")?;
-        c[3].print(rt, b"arrival_group")?;
-        c[4].print(rt, b"trendline")?;
-        c[5].print(rt, b"rate_control")?;
-        c[6].print(rt, b"control")?;
-        c[7].print(rt, b"bandwidth")?;
+        for (counts, name) in self.counts.iter().zip(&NAMES) {
+            counts.print(rt, name.as_bytes())?;
+        }
         self.all.print_first(rt)
     }
 }
