@@ -59,6 +59,10 @@ powers m z r j e h =
 pub digits : (big base : ℕ) → Sized big base → (2 ^ 53 ≤ whole_root (big * 2 ^ 54)) × (whole_root (big * 2 ^ 54) < 2 ^ 54 - 1)
 digits big base s = (root_ge (big * 2 ^ 54) (2 ^ 53) (omega arith), root-lt (big * 2 ^ 54) (2 ^ 54 - 1) (omega arith))
 
+-- a root's pattern is above those of zero and of the floats below 2 ^ -1022, and below infinity's
+pub in_range : (big base : ℕ) → Sized big base → (2 ^ 52 ≤ root_bits big base) × (root_bits big base < 2047 * 2 ^ 52)
+in_range big base s = let d = digits big base s in (omega (arith, d.0), omega (arith, d.1, s.small))
+
 module _ (m e z : ℕ) (n : Normal m z) where
   -- as the code has them, with their shifts
   abbrev pub half : ℕ

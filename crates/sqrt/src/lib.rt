@@ -1,24 +1,36 @@
 // IEEE 754's square root of an `f64`, for every input, and the test whether a float is the root of another.
 #![tactic(auto)]
 
-ghost use Rattle.std.specs.Prelude.{◌≡◌, ◌+◌, ◌*◌, ◌/◌, ◌^◌, ◌<◌, ◌==◌};
+ghost use Rattle.std.specs.Prelude.{◌≡◌, ◌+◌, ◌*◌, ◌/◌, ◌^◌, ◌<◌, ◌≤◌, ◌==◌};
 ghost use Rattle.std.specs.Float.Ieee as Ieee;
 ghost use Rattle.std.specs.Float.{binary64};
 ghost use Rattle.sqrt.specs.Sqrt.{sqrt, root_units, whole_root};
-ghost use Rattle.sqrt.specs.RootBits.{root_bits, Sized};
+
+use std::marker::Model;
 
 // A root, by its bit pattern: base plus half of the whole root of big * 2^54, rounded up.
-#[derive(Clone, Copy)]
+#[derive(Drop)]
 struct Root {
     big: u64,
     base: u64,
+}
+
+impl Model for Root {
+    ghost use Rattle.std.specs.Prelude.{ℕ};
+    ghost use Rattle.sqrt.specs.RootBits.{root_bits, Sized};
+
+    ghost Value = { ℕ };
+
+    ghost view = { λ r. root_bits r.big r.base };
+
+    ghost invariant = { λ r. Sized r.big r.base };
 }
 
 // The root of m * 2^e units of 2^-1074: m is brought to 53 digits, and the power to an even one.
 #[tactic(auto, using(crate::specs::Units::normal, crate::specs::Units::answer))]
 fn root_of(m: u64, e: u64) -> Root
     requires { (0 < m) × (m < 2 ^ 53) × (e < 2046) }
-    ensures { Sized result.big result.base × (root_units (m * 2 ^ e) ≡ Ieee.of_bits binary64 (root_bits result.big result.base)) }
+    ensures { root_units (m * 2 ^ e) ≡ Ieee.of_bits binary64 result }
 {
     let z = m.leading_zeros() as u64 - 11;
     let p = e + 54 - z;
@@ -31,7 +43,7 @@ fn root_of(m: u64, e: u64) -> Root
 // The root of the float whose pattern is b: finite and above 0.
 fn root_at(b: u64) -> Root
     requires { (0 < b) × (b < 2047 * 2 ^ 52) }
-    ensures { Sized result.big result.base × (sqrt (Ieee.of_bits binary64 b) ≡ Ieee.of_bits binary64 (root_bits result.big result.base)) }
+    ensures { sqrt (Ieee.of_bits binary64 b) ≡ Ieee.of_bits binary64 result }
 {
     let k = b / 4503599627370496;
     let t = b % 4503599627370496;
@@ -72,30 +84,31 @@ fn square_high(s: u64) -> u64
     ((s as u128 * s as u128) >> 54) as u64
 }
 
-// Is b the pattern of the root? Its significand is q exactly if big * 2^54 lies between the squares of 2q - 1 and 2q + 1, which are odd and so never equal to it.
-fn has_bits(r: Root, b: u64) -> bool
-    requires { Sized r.big r.base }
-    ensures { result ≡ (b == root_bits r.big r.base) }
-{
-    if b < r.base + 4503599627370496 {
-        return false;
+impl Root {
+    // Is b its pattern? Its significand is q exactly if big * 2^54 lies between the squares of 2q - 1 and 2q + 1, which are odd and so never equal to it.
+    fn has_bits(&self, b: u64) -> bool
+        ensures told { result ≡ (b == self.now) }
+        ensures range { (2 ^ 52 ≤ self.now) × (self.now < 2047 * 2 ^ 52) }
+    {
+        if b < self.base + 4503599627370496 {
+            return false;
+        }
+        let q = b - self.base;
+        if 9007199254740992 <= q {
+            return false;
+        }
+        (square_high(2 * q - 1) < self.big) & (self.big <= square_high(2 * q + 1))
     }
-    let q = b - r.base;
-    if 9007199254740992 <= q {
-        return false;
-    }
-    (square_high(2 * q - 1) < r.big) & (r.big <= square_high(2 * q + 1))
-}
 
-// The root's pattern: the guess c, if the test finds it to be the root's, and else digit by digit.
-fn root_bits(r: Root, c: u64) -> u64
-    requires { Sized r.big r.base }
-    ensures { result ≡ root_bits r.big r.base }
-{
-    if has_bits(r, c) {
-        return c;
+    // The root: the guess c, if the test finds it to be the pattern, and else digit by digit.
+    fn value(&self, c: u64) -> f64
+        ensures { result ≡ Ieee.of_bits binary64 self.now }
+    {
+        if self.has_bits(c) {
+            return f64::from_bits(c);
+        }
+        f64::from_bits(self.base + (root54(self.big) + 1) / 2)
     }
-    r.base + (root54(r.big) + 1) / 2
 }
 
 // IEEE 754's square root. The guess is std's root, which has another definition of the same: the exact test shows that it is ours, and where it
@@ -116,7 +129,7 @@ pub fn sqrt(x: f64) -> f64
     if b == 0x7ff0_0000_0000_0000 {
         return x;
     }
-    f64::from_bits(root_bits(root_at(b), x.sqrt().to_bits()))
+    root_at(b).value(x.sqrt().to_bits())
 }
 
 // Rust's `d == v.sqrt()`, by exact products: no loop, and no root taken.
@@ -139,5 +152,5 @@ pub fn is_sqrt(d: f64, v: f64) -> bool
     if b == 0x7ff0_0000_0000_0000 {
         return d == v;
     }
-    has_bits(root_at(b), d.to_bits())
+    root_at(b).has_bits(d.to_bits())
 }

@@ -1,11 +1,9 @@
 -- `sqrt::is_sqrt` meets its contract: each test sends one kind of float on (`Cases.antt`), and what is left is told by its bits (`Equal.antt`).
-use Rattle.std.proofs.Common.{sym, ap, ◌∙◌, arith}
+use Rattle.std.proofs.Common.{sym, ap, ◌∙◌}
 use lib.Ieee.{binary64, eq}
 use lib.Ieee.Bits.{of_bits-to_bits}
 use Rattle.sqrt.specs.Sqrt.{sqrt}
-use Rattle.sqrt.specs.RootBits.{root_bits}
 use Rattle.sqrt.proofs.Cases.{at-nan, root-of-nan, zero_same, at-below, at-infinity, in-range}
-use Rattle.sqrt.specs.Units.{digits}
 use Rattle.sqrt.proofs.Equal.{eq-nan, by_bits}
 use Rattle.float_order.specs.Order.{is_true}
 use Rattle.sqrt.proofs.is_sqrt.Goals as goal
@@ -31,10 +29,7 @@ root_at-requires c =
 
 pub returns : goal.returns
 returns c =
-    let start = c in
-    let r = c.root_at.result in
-    let s = c.root_at.ensures.0 in
-    let d = digits r.big r.base s in
-    c.has_bits.ensures
-    ∙ by_bits (root_bits r.big r.base) (omega (arith, d.0)) (omega (arith, d.1)) start.args.d (is_true _ start.well_formed.0.1)
-    ∙ ap (eq start.args.d) (sym c.root_at.ensures.1 ∙ ap sqrt (of_bits-to_bits binary64 start.args.v (is_true _ start.well_formed.1.0.1)))
+    let root = c.root_at.result in
+    c.has_bits.ensures.told
+    ∙ by_bits root c.has_bits.ensures.range.0 c.has_bits.ensures.range.1 c.args.d (is_true _ c.well_formed.0.1)
+    ∙ ap (eq c.args.d) (sym c.root_at.ensures ∙ ap sqrt (of_bits-to_bits binary64 c.args.v (is_true _ c.well_formed.1.0.1)))

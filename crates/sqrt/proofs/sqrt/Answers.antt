@@ -1,11 +1,9 @@
 -- `sqrt::sqrt` meets its contract: each test sends one kind of float on (`Cases.antt`).
-use Rattle.std.proofs.Common.{sym, ap, ◌∙◌, arith}
+use Rattle.std.proofs.Common.{sym, ap, ◌∙◌}
 use lib.Ieee.{binary64}
 use lib.Ieee.Bits.{of_bits-to_bits}
 use Rattle.sqrt.specs.Sqrt.{sqrt}
 use Rattle.sqrt.proofs.Cases.{at-nan, root-of-nan, at_zero, at-below, nan_is, at-infinity, in-range}
-use Rattle.sqrt.specs.Units.{digits}
-use Rattle.float_order.specs.Bits.{no-nan-bits}
 use Rattle.float_order.specs.Order.{is_true}
 use Rattle.sqrt.proofs.sqrt.Goals as goal
 
@@ -26,12 +24,5 @@ root_at-requires c =
     let start = c in
     in-range start.args.x start.well_formed.0.1 (sym c.is_nan.ensures.value ∙ c.if-is_nan.false) c.if-x.false c.if-x-2.false c.if-b-eq9218868437227405312.false
 
-pub float_from_bits-result : goal.float_from_bits-result
-float_from_bits-result c =
-    let root = c.root_at in
-    no-nan-bits _ (omega (arith, c.root_bits.ensures, root.ensures.0.small, (digits root.result.big root.result.base root.ensures.0).1))
-
 pub returns : goal.returns
-returns c =
-    let start = c in
-    rw c.root_bits.ensures (sym c.root_at.ensures.1 ∙ ap sqrt (of_bits-to_bits binary64 start.args.x (is_true _ start.well_formed.0.1)))
+returns c = c.value.ensures ∙ sym c.root_at.ensures ∙ ap sqrt (of_bits-to_bits binary64 c.args.x (is_true _ c.well_formed.0.1))
