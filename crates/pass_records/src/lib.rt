@@ -19,10 +19,10 @@ const OUTPUT_PER_RECORD: usize = 48;
 // The question that a file fails.
 #[derive(Clone, Copy, Debug, PartialEq, Eq)]
 pub enum FileRefusal {
-    BadLength,
-    BadKind,
-    BadNext,
-    ShortOutput,
+    BadLength = 10,
+    BadKind = 11,
+    BadNext = 12,
+    ShortOutput = 13,
 }
 
 // Its number, which is all that a program says of it: so no `Display`.
@@ -30,12 +30,7 @@ impl From<FileRefusal> for u64 {
     ghost from_gives = { λ refusal n. n ≡ Records.question refusal };
 
     fn from(refusal: FileRefusal) -> u64 {
-        match refusal {
-            FileRefusal::BadLength => 10,
-            FileRefusal::BadKind => 11,
-            FileRefusal::BadNext => 12,
-            FileRefusal::ShortOutput => 13,
-        }
+        refusal as u64
     }
 }
 
@@ -84,7 +79,7 @@ impl<'a> Record<'a> {
         }
     }
 
-    // The number of the record that follows it, or 0.
+    // The number of the record that follows it, or 0. No Option: question 12 is put to the number as it stands, and the chain of a judged file ends at 0.
     pub fn next(self) -> u32
         ensures { result ≡ Records.next self.entry.bytes.now }
     {
