@@ -36,7 +36,7 @@ pub struct Opening {
 }
 
 impl Opening {
-    // Windows are ns.
+    // Windows are ns; the two are the Rust's parameters of `AckedBitrateEstimator::new`, so no struct.
     #[tactic(auto, using(crate::proofs::Laws::by_first_no), unfolding(crate::specs::Link::link))]
     pub fn judge(
         start_bitrate: Bitrate,
@@ -199,6 +199,7 @@ pub fn report(link: Link, report: Report) -> Called
 }
 
 // ---- timeout
+// C's timeout (crates/c_api) takes the same course on lent words: there no refusal copies the link, and no call stores more than changed.
 #[tactic(auto, using(crate::proofs::Laws::by_first_no))]
 pub fn timeout(link: Link, now: u64) -> Called
     ensures { Calls.outcome result ≡ Calls.timeout link now }
