@@ -12,6 +12,8 @@
 //
 // A group is its tag and four instants in the order of its fields, an average its factor, the tag and bits of the average, variance and deviation. The tags of enums count their
 // variants from 0.
+//
+// A part's place goes with all words, and `requires` has its room: a slice of a part would need its length in a clause, and an array of five needs a conversion that can fail, at each call.
 #![tactic(auto)]
 
 ghost use Rattle.std.specs.Prelude.{◌≡◌, map, ◌+◌, ◌≤◌, unwrap_or};
@@ -242,7 +244,7 @@ pub fn formed(words: &[u64; 100]) -> bool
 }
 
 // ---- words of values
-// A length's tag and ns. The oracle's cases (crates/replay) are another format, with functions of their own.
+// A length's tag and ns. crates/replay has the same tags for the oracle's cases: two formats that agree in this by chance, and either may change alone.
 fn time_parts(time: TimeDelta) -> (u64, u64)
     ensures tag { result.0 ≡ Words.time_tag time }
     ensures ns { result.1 ≡ Words.time_ns time }
@@ -300,7 +302,7 @@ fn store_group(words: &mut [u64; 100], at: usize, group: Option<ArrivalGroup>)
     words[at + 4] = times.last_remote_recv_time;
 }
 
-// The bits of 20 floats from a word on.
+// The bits of 20 floats from a word on. No zip with `words[at..].iter_mut()`: tried, and nothing is known of the words after a loop over an adapter of `iter_mut`.
 fn store_floats(words: &mut [u64; 100], at: usize, floats: [f64; 20])
     requires { at + 20 ≤ 100 }
     ensures { words.new ≡ sets words.old at (map (to_bits binary64) floats) }
@@ -416,7 +418,7 @@ fn store_control(words: &mut [u64; 100], c: DelayController)
     store_option(words, 98, c.last_twcc_report);
 }
 
-// Stores a link's two parts, whatever the words were.
+// Stores a link's two parts, whatever the words were. No `Link`: C's report has the two apart, and would make one for this call alone.
 pub fn store(words: &mut [u64; 100], acked: AckedBitrateEstimator, control: DelayController)
     ensures { words.new ≡ Words.to_words (record { acked = acked; control = control }) }
 {
