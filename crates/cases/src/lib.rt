@@ -6,7 +6,8 @@ ghost use Rattle.cases.specs.Cases as Cases;
 
 use std::{array, io};
 
-// An operation, its inputs and the Rust's answers: the file has six for each operation, so they are an array.
+// An operation, its inputs and the Rust's answers: the file has six for each operation, so they are an array. The operation is a number, as in the file: each program
+// has operations of its own, which an enum here would have to name.
 #[derive(Clone, Copy)]
 pub struct Case {
     pub op: u64,

@@ -59,6 +59,7 @@ fn compared(c: Case, file: &mut [u8], out: &mut [u8]) -> bool {
 fn replay(input: &mut impl Read, file: &mut [u8], out: &mut [u8]) -> io::Result<Counts> {
     let mut counts = Counts::new();
     put_timeouts(file);
+    // Each program that reads cases has this loop: the contract of one in `cases` would have to say of which cases of the input the closure was called.
     for _ in 0..1_000_000u64 {
         let mut bytes = [0u8; 96];
         if reading::read_full(input, &mut bytes)? < 96 {

@@ -41,6 +41,7 @@ fn threshold(rt: &impl Print, name: &str, modified_trend: f64) -> io::Result<()>
     println!(rt; "{name}: adapts")
 }
 
+// Put together here, as in the other programs: they have no crate of their own that knows a link.
 fn fresh() -> Link {
     Link {
         acked: AckedBitrateEstimator::new(500_000_000, 150_000_000),
