@@ -5,7 +5,7 @@ use mathlib.Core.List.{List, [], ◌∷◌, ◌++◌}
 use native.Mathlib.Nat.{add-zero, add-suc, suc-add, pow-suc}
 use native.Mathlib.Omega.{arith}
 use lib.ListN.{length, set, length-append}
-use lib.Seq.{sets, set_comm}
+use lib.Seq.{sets, set_comm, length-sets}
 use Rattle.std.specs.Prelude.{Option, Some, None, IfSome, IfNone}
 use Rattle.std.specs.Option.{unwrap_or}
 use Rattle.listing_line.specs.ListingLine.{digit, digits, width, field, put_line, place_after, Wrote}
@@ -33,6 +33,12 @@ digits-end out at b k n end = record {
   bytes = rw (← sets-append, length_digits);
   after = simp (length-append, length_digits) (omega arith);
 }
+
+-- after a text there is room for what had room after it
+pub room-left : {old text new : List ℕ} {at next : ℕ} → (more : ℕ) → Wrote old at text new next → at + length text + more < length old → next + more < length new
+room-left {old} {text} {new} {at} more w h =
+    let n : length new ≡ length old = rw (w.bytes, length-sets) in
+    omega (arith, w.after, h, n)
 
 -- ---- how many digits a number takes
 -- one more than its logarithm; 0 has none
