@@ -125,6 +125,7 @@ fn main(rt: HostRuntime) -> io::Result<()> {
         link: None,
         counts: Counts::new(),
     };
+    // Each program that reads cases has this loop: the contract of one in `cases` would have to say of which cases of the input the closure was called.
     for _ in 0..1_000_000_000u64 {
         let mut bytes = [0u8; 96];
         if reading::read_full(&mut input, &mut bytes)? < 96 {

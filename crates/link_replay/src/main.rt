@@ -26,7 +26,7 @@ fn delta_tag(d: TimeDelta) -> u64 {
     }
 }
 
-// Hypothesis with the counts of variations and of overuse.
+// Hypothesis with the counts of variations and of overuse. `replay` has one too: `cases`, the home of what they share, knows no trendline.
 fn trend_word(t: TrendlineEstimator) -> u64 {
     let d = t.delays;
     let count = t.hypothesis() as u64 | (d.num_delay_variations << 8);
@@ -120,6 +120,7 @@ struct Replay {
 
 impl Replay {
     fn new(alloc: Global) -> Self {
+        // Put together here, as in the other programs: `cases`, the home of what they share, knows no link.
         let acked = AckedBitrateEstimator::new(500_000_000, 150_000_000);
         let control = DelayController::new(Bitrate(1_000_000.0));
         Self {
@@ -165,6 +166,7 @@ impl Replay {
 fn main(rt: HostRuntime) -> io::Result<()> {
     let mut input = rt.reader();
     let mut replay = Replay::new(rt.alloc());
+    // Each program that reads cases has this loop: the contract of one in `cases` would have to say of which cases of the input the closure was called.
     for _ in 0..1_000_000_000u64 {
         let mut bytes = [0u8; 96];
         if reading::read_full(&mut input, &mut bytes)? < 96 {
