@@ -134,6 +134,7 @@ fn read_and_compared(input: &mut impl Read, c: Case, bytes: &mut [u8]) -> io::Re
 // Every case of standard input.
 fn replay(input: &mut impl Read, bytes: &mut [u8]) -> io::Result<Counts> {
     let mut counts = Counts::new();
+    // A loop of its own: its record is no `Case`.
     for _ in 0..1_000_000_000u64 {
         let mut words = [0u8; CASE_BYTES];
         let read = reading::read_full(input, &mut words)?;
