@@ -97,10 +97,7 @@ fn in_range(link: &[u64; 100], lent: Link) -> bool
 fn probe_result(has_probe: u32, probe: f64) -> Option<Bitrate>
     ensures { result ≡ Lent.probe_result has_probe probe }
 {
-    if has_probe == 0 {
-        return None;
-    }
-    Some(Bitrate(probe))
+    (has_probe != 0).then_some(Bitrate(probe))
 }
 
 // A report to a link in range, its packets in the order of receipt. `link::report` gives the same; here no refusal copies the link.

@@ -1,4 +1,4 @@
-// What programs in C or Rust call for a link's calls: each export is the function of that name of `c_api`. A slice is a pointer and a length.
+// What programs in C or Rust call for a link's calls: each export is the function of that name of `c_api`, which a test program calls too: a crate is a library or a static library, and not both. A slice is a pointer and a length.
 #![tactic(auto)]
 
 ghost use Rattle.std.specs.Prelude.{◌≡◌};

@@ -27,6 +27,7 @@ fn open() -> Link
     Link { acked, control }
 }
 
+// No `then_some`, which reads the bits of each report: a record of samples/congestion.pass takes 117 ns, and so 115. Of `then` the check finds no proof.
 fn probe(record: Record) -> Option<Bitrate>
     ensures { result ≡ PassFile.probe «record».entry.bytes.now }
 {
@@ -98,7 +99,7 @@ fn list_chain(file: &[u8], out: &mut [u8], waiting: &mut WaitingPackets, link: L
     let mut control = link.control;
     let mut at = 0;
     let mut k = 1;
-    // No `for`: each record names the next, and an iterator for this loop alone would be a type with an impl and laws of its own.
+    // No `for`: each record names the next, so `std::iter::successors` would read each record in a closure too, to name it there.
     loop {
         let record = Record::of(file, k);
         let now = record.receive();
@@ -108,8 +109,7 @@ fn list_chain(file: &[u8], out: &mut [u8], waiting: &mut WaitingPackets, link: L
             Kind::Packet => waiting.push(record),
             Kind::Report => {
                 let probe = probe(record);
-                let mut number = 0;
-                match judge_report(acked, waiting, probe, now) {
+                let number = match judge_report(acked, waiting, probe, now) {
                     Ok(after) => {
                         acked = after;
                         control = control.update(
@@ -120,18 +120,21 @@ fn list_chain(file: &[u8], out: &mut [u8], waiting: &mut WaitingPackets, link: L
                             probe,
                             now,
                         );
+                        0
                     }
-                    Err(refusal) => number = u64::from(refusal),
-                }
+                    Err(refusal) => u64::from(refusal),
+                };
                 waiting.clear();
                 at = line_of(k, number, &control).put(out, at);
             }
             Kind::Timeout => {
-                let mut number = 0;
-                match questions::timeout(now) {
-                    Ok(()) => control = control.handle_timeout(acked.current_estimate(), now),
-                    Err(refusal) => number = u64::from(refusal),
-                }
+                let number = match questions::timeout(now) {
+                    Ok(()) => {
+                        control = control.handle_timeout(acked.current_estimate(), now);
+                        0
+                    }
+                    Err(refusal) => u64::from(refusal),
+                };
                 at = line_of(k, number, &control).put(out, at);
             }
         }
