@@ -25,7 +25,7 @@ fn code(refusal: Refusal) -> i64
     -(u64::from(refusal) as i64)
 }
 
-// Estimate, hypothesis and next timeout, to the lent places. C lends each by a pointer of its own, so they are three parameters.
+// Estimate, hypothesis and next timeout, to the lent places. C lends each by a pointer of its own, so they are three parameters. A struct of them for the private functions would be made by each export, and their clauses would stay.
 fn tell(bitrate: &mut f64, hypothesis: &mut u32, next_timeout: &mut u64, control: DelayController)
     ensures bitrate_after { bitrate.new ≡ control.rate_control.estimated_bitrate.0 }
     ensures hypothesis_after { hypothesis.new ≡ hypothesis_tag control.trendline_estimator.hypothesis }
@@ -37,7 +37,7 @@ fn tell(bitrate: &mut f64, hypothesis: &mut u32, next_timeout: &mut u64, control
     *next_timeout = control.poll_timeout();
 }
 
-// What a call gave, to the lent places.
+// What a call gave, to the lent places. Not by `tell`: no invariant of a `Called` says that its estimate is that of its link.
 #[tactic(auto, using(crate::proofs::Laws::told))]
 fn store(
     link: &mut [u64; 100],
@@ -174,6 +174,7 @@ pub fn hornetpewter_report(
     store(link, bitrate, hypothesis, next_timeout, called)
 }
 
+// `link::timeout` gives the same; here no refusal copies the link, and the words that a timeout leaves as they are aren't stored.
 pub fn hornetpewter_timeout(
     link: &mut [u64; 100],
     moment: u64,
