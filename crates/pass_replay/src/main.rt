@@ -108,6 +108,7 @@ fn compared(input: &mut impl Read, c: Header, file: &mut [u8], out: &mut [u8]) -
 // Every case of standard input.
 fn replay(input: &mut impl Read, file: &mut [u8], out: &mut [u8]) -> io::Result<Counts> {
     let mut counts = Counts::new();
+    // A loop of its own: its record is no `Case`.
     for _ in 0..1_000_000_000u64 {
         let mut header = [0u8; 20];
         if reading::read_full(input, &mut header)? < 20 {
