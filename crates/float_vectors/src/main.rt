@@ -22,6 +22,7 @@ fn compare<F: Fn(u64, u64, u64) -> u64>(
     let mut file = fs::open(rt, name)?;
     let mut counts = Counts::new();
     let size = 8 * inputs + 8;
+    // A loop of its own: its record is no `Case`.
     for _ in 0..1_000_000u64 {
         // At most three inputs and the answer.
         let mut record = [0u8; 32];
