@@ -7,16 +7,15 @@ ghost use Rattle.feedback_lists.specs.Lists as Lists;
 ghost use Rattle.feedback_lists.specs.Run as Run;
 
 use feedback_reader::{Cursor, Place};
-use status_chunk::{Kind, Symbol};
 
 // How many packets of a run of small deltas are at hand, whose deltas are in a message of that length and which so many places have room for; 0 in another chunk.
 fn run_at_hand(length: usize, places: usize, cursor: Cursor) -> usize
     ensures { Run.AtHand length places cursor result }
 {
     let place = cursor.place;
-    let Kind::Run(Symbol::SmallDelta, _) = Kind::from(place.chunk) else {
+    if !(0x2000..0x4000).contains(&place.chunk) {
         return 0;
-    };
+    }
     let packets = place.symbols_left.min(cursor.packets_left);
     usize::from(packets)
         .min(places)

