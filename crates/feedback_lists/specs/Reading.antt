@@ -1,19 +1,16 @@
 -- The state of a loop that hands out packets to two lists.
-use Rattle.std.specs.Prelude.{◌≡◌, ℕ, zero, suc, ◌+◌, ◌-◌, ◌^◌, ◌<◌, ◌≤◌, min, Bool, true, false, ◌&&◌, nat_lt, List, [], ◌∷◌, ◌++◌, map, length, take, drop, replicate, ℤ, slice_set, refl, Option, Some, None}
+use Rattle.std.specs.Prelude.{◌≡◌, ℕ, zero, suc, ◌+◌, ◌-◌, ◌^◌, ◌<◌, ◌≤◌, min, Bool, true, false, ◌&&◌, nat_lt, List, [], ◌∷◌, map, length, replicate, ℤ, slice_set, refl, Option, Some, None}
 use Rattle.std.proofs.Common.{sym, ap, ◌∙◌, zero-add, add-zero, add-one, ltb-false, ltb-true}
 use native.Mathlib.Omega.{arith}
 use Rattle.std.proofs.Math.ListN.{length-map, length-set}
-use Rattle.std.proofs.lemmas.List.{append_assoc, length-drop, length-replicate, length-take}
-use Rattle.std.proofs.lemmas.List.Edits.{sets, sets-eq, paste_all}
-use Rattle.std.proofs.lemmas.Slice.{put_mid-paste}
-use borrow.Rule.Slice.PartMut.{put_mid}
+use Rattle.std.proofs.lemmas.List.Edits.{sets, sets-eq}
 use Rattle.bool_laws.specs.Bools.{both}
 use Rattle.twcc.specs.Feedback.{signed}
 use Rattle.twcc.specs.declared.Packet.{Packet}
 use Rattle.feedback_reader.specs.Reader.{Step, gives, step}
 use Rattle.feedback_reader.specs.declared.Cursor.{Cursor}
 use Rattle.feedback_lists.specs.Lists.{next_packets, cursor_after, status, ticks_of, room, over, statuses_over, ticks_over}
-use Rattle.feedback_lists.specs.Run.{small_after, run_ticks, run_times, after_run, AtHand, time, run_step, run_on, after_none, after_on}
+use Rattle.feedback_lists.specs.Run.{run_ticks, run_times, after_run, AtHand, time, run_step, run_on, after_none, after_on}
 use Rattle.feedback_lists.specs.Laws.{none_stays, packets-none, cursor-none, packets-some, packets-most}
 
 -- the first places of a list written over, as stores one by one
@@ -32,21 +29,6 @@ no_room n a b e = go (nat_lt n a) refl e
     go : (t : Bool) → nat_lt n a ≡ t → (t && nat_lt n b) ≡ false → min a b ≤ n
     go true h k = let l = ltb-false n b k in omega arith
     go false h k = let l = ltb-false n a h in omega arith
-
--- a part of a list written over
-put-part : {A : Type 0} (old new : List A) (at k : ℕ) → length new ≡ k → at + k ≤ length old → put_mid at (at + k - at) old new ≡ sets old at new
-put-part old new at k long h =
-    let e : at + k - at ≡ k = omega arith in
-    let s : sets old at new ≡ take at old ++ new ++ drop (at + k) old = rw long at (sets-eq new old at (rw long h)) in
-    rw e (put_mid-paste at k old new new k refl refl (sym long) ∙ paste_all old at new k (sym long) ∙ sym (append_assoc (take at old) new (drop (at + k) old)) ∙ sym s)
-
-pub part-length : {A : Type 0} (xs : List A) (at k : ℕ) → at + k ≤ length xs → length (take (at + k - at) (drop at xs)) ≡ k
-part-length xs at k h = omega (arith, length-take (at + k - at) (drop at xs), length-drop at xs)
-
-length-times : (k : ℕ) (message : List ℕ) (delta ticks : ℕ) → length (run_times k message delta ticks) ≡ k
-unfolding run_times
-length-times zero message delta ticks = refl
-length-times (suc k) message delta ticks = ap suc (length-times k message (delta + 1) (small_after message delta ticks))
 
 -- ---- the loop
 module _ (message statuses₀ : List ℕ) (ticks₀ : List ℤ) (from : Cursor) where
@@ -160,12 +142,8 @@ module _ (message statuses₀ : List ℕ) (ticks₀ : List ℤ) (from : Cursor) 
   run-some (suc k) {cursor = cursor} places run r h some =
       all_more k places run r h (run_typed k (places - 1) (run_on message cursor places k run) (one_more k places run r h) (omega arith) (omega arith))
 
-  -- the run's places are a part of each list, of m places
   pub reading-run :
-      (k m : ℕ) {statuses x : List ℕ} {ticks y : List ℤ} {n : ℕ} {cursor z : Cursor} (places : ℕ) → AtHand (length message) places cursor k → Reading statuses ticks n cursor → n + k ≤ most → 0 < k → m ≡ k →
-      x ≡ replicate m 1 → y ≡ run_times m message cursor.next_delta cursor.ticks → z ≡ after_run cursor m (run_ticks m message cursor.next_delta cursor.ticks) →
-      Reading (put_mid n (n + k - n) statuses x) (put_mid n (n + k - n) ticks y) (n + k) z
-  reading-run k m {statuses} {x} {ticks} {y} {n} {cursor} places run r h some all x-is y-is z-is =
-      let x-long : length x ≡ k = rw x-is (length-replicate m 1) ∙ all in
-      let y-long : length y ≡ k = rw y-is (length-times m message cursor.next_delta cursor.ticks) ∙ all in
-      rw (put-part statuses x n k x-long (omega (arith, r.statuses-long)), put-part ticks y n k y-long (omega (arith, r.ticks-long)), x-is, y-is, z-is, all) (run-some k places run r h some)
+      (k : ℕ) {statuses x : List ℕ} {ticks y : List ℤ} {n : ℕ} {cursor z : Cursor} (places : ℕ) → AtHand (length message) places cursor k → Reading statuses ticks n cursor → n + k ≤ most → 0 < k →
+      x ≡ sets statuses n (replicate k 1) → y ≡ sets ticks n (run_times k message cursor.next_delta cursor.ticks) → z ≡ after_run cursor k (run_ticks k message cursor.next_delta cursor.ticks) →
+      Reading x y (n + k) z
+  reading-run k places run r h some x-is y-is z-is = rw (z-is, x-is, y-is) (run-some k places run r h some)

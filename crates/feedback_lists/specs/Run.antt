@@ -1,11 +1,11 @@
 -- Packets of a run of small deltas handed out together, and that steps one by one give the same.
-use Rattle.std.specs.Prelude.{◌≡◌, ℕ, zero, suc, ◌+◌, ◌-◌, ◌%◌, ◌^◌, ◌<◌, ◌≤◌, List, [], ◌∷◌, ◌++◌, length, take, drop, ℤ, slice_index, slice_set, Some}
+use Rattle.std.specs.Prelude.{◌≡◌, ℕ, zero, suc, ◌+◌, ◌-◌, ◌%◌, ◌^◌, ◌<◌, ◌≤◌, List, [], ◌∷◌, length, drop, replicate, ℤ, slice_index, slice_set, refl, Some}
 use Rattle.std.proofs.Math.Path.{sym}
-use Rattle.std.proofs.Common.{◌∙◌, add-zero, append-nil, mod-eq_of_lt}
+use Rattle.std.proofs.Common.{◌∙◌, add-zero, mod-eq_of_lt}
 use native.Mathlib.Omega.{arith}
 use Rattle.std.proofs.Math.Nat.{sub-zero}
 use Rattle.std.proofs.Math.ListN.{length-set}
-use Rattle.std.proofs.lemmas.List.{take_more_set, take_all, append_assoc}
+use Rattle.std.proofs.lemmas.List.Edits.{sets}
 use borrow.Author.Tests.{le-ltb, ne_eqb}
 use Rattle.status_chunk.specs.Chunk.{small_delta, symbol_count, symbol_left}
 use Rattle.status_chunk.specs.Laws.{run-symbol}
@@ -93,36 +93,43 @@ after_on cursor n time ticks =
     simp (a, b, c, d)
 
 -- ---- the loop
-module _ (message : List ℕ) (delta before n : ℕ) where
+module _ (message : List ℕ) (delta before : ℕ) (statuses₀ : List ℕ) (ticks₀ : List ℤ) (at n : ℕ) where
   -- i packets are handed out; what is left, handed out too, gives the whole
-  pub record Running (i : ℕ) (ticks : List ℤ) (sum : ℕ) : Type 0 where
+  pub record Running (statuses : List ℕ) (ticks : List ℤ) (sum i : ℕ) : Type 0 where
     pub within : i ≤ n
-    pub ticks-long : length ticks ≡ n
+    pub statuses-long : length statuses ≡ length statuses₀
+    pub ticks-long : length ticks ≡ length ticks₀
     pub sum_is : run_ticks (n - i) message (delta + i) sum ≡ run_ticks n message delta before
-    pub ticks-are : take i ticks ++ run_times (n - i) message (delta + i) sum ≡ run_times n message delta before
+    pub statuses-are : sets statuses (at + i) (replicate (n - i) 1) ≡ sets statuses₀ at (replicate n 1)
+    pub ticks-are : sets ticks (at + i) (run_times (n - i) message (delta + i) sum) ≡ sets ticks₀ at (run_times n message delta before)
 
-  pub running_none : {ticks : List ℤ} → length ticks ≡ n → Running 0 ticks before
-  running_none long = record { within = omega arith; ticks-long = long; sum_is = rw (sub-zero, add-zero); ticks-are = rw (sub-zero, add-zero) }
+  pub running_none : Running statuses₀ ticks₀ before 0
+  running_none =
+      record { within = omega arith; statuses-long = refl; ticks-long = refl; sum_is = rw (sub-zero, add-zero); statuses-are = rw (sub-zero, add-zero); ticks-are = rw (sub-zero, add-zero, add-zero) }
 
-  module _ {i : ℕ} {ticks : List ℤ} {sum : ℕ} (r : Running i ticks sum) where
-    pub running_more : {next : ℕ} {y : ℤ} → i < n → next ≡ small_after message (delta + i) sum → y ≡ signed 0x8000_0000 next → Running (i + 1) (slice_set ticks i y) next
+  module _ {statuses : List ℕ} {ticks : List ℤ} {sum i : ℕ} (r : Running statuses ticks sum i) where
+    pub running_more : {next : ℕ} {y : ℤ} → i < n → next ≡ small_after message (delta + i) sum → y ≡ signed 0x8000_0000 next → Running (slice_set statuses (at + i) 1) (slice_set ticks (at + i) y) next (i + 1)
     unfolding run_ticks run_times
-    running_more {y = y} h next-is y-is =
+    running_more h next-is y-is =
         let z : n - i ≡ suc (n - (i + 1)) = omega arith in
         let d : delta + i + 1 ≡ delta + (i + 1) = omega arith in
+        let a : suc (at + i) ≡ at + (i + 1) = omega arith in
         record {
           within = omega arith;
+          statuses-long = rw length-set r.statuses-long;
           ticks-long = rw length-set r.ticks-long;
           sum_is = rw (next-is, ← d) (rw z at r.sum_is);
-          ticks-are = rw (take_more_set ticks i y (omega (arith, r.ticks-long)), append_assoc, y-is, next-is, ← d) (rw z at r.ticks-are);
+          statuses-are = rw (← a) (rw z at r.statuses-are);
+          ticks-are = rw (y-is, next-is, ← a, ← d) (rw z at r.ticks-are);
         }
 
     pub record Ran : Type 0 where
       pub sum-end : sum ≡ run_ticks n message delta before
-      pub ticks-end : ticks ≡ run_times n message delta before
+      pub statuses-end : statuses ≡ sets statuses₀ at (replicate n 1)
+      pub ticks-end : ticks ≡ sets ticks₀ at (run_times n message delta before)
 
     pub running-all : n ≤ i → Ran
     unfolding run_ticks run_times
     running-all h =
         let z : n - i ≡ 0 = omega arith in
-        record { sum-end = rw z at r.sum_is; ticks-end = rw (z, append-nil, take_all i ticks (omega (arith, r.ticks-long))) at r.ticks-are }
+        record { sum-end = rw z at r.sum_is; statuses-end = rw z at r.statuses-are; ticks-end = rw z at r.ticks-are }

@@ -22,29 +22,35 @@ fn run_at_hand(length: usize, places: usize, cursor: Cursor) -> usize
         .min(length.saturating_sub(cursor.next_delta))
 }
 
-// Hands out packets of a run of small deltas, as many as both lists have places.
-fn read_run(message: &[u8], cursor: &mut Cursor, statuses: &mut [u8], ticks: &mut [i32])
-    requires at_hand { (cursor.old.next_delta + length ticks.old ≤ length message.now) × ((length ticks.old ≤ cursor.old.place.symbols_left) × (length ticks.old ≤ cursor.old.packets_left)) }
-    requires room { length statuses.old ≡ length ticks.old }
-    ensures cursor_after { cursor.new ≡ Run.after_run cursor.old (length ticks.old) (Run.run_ticks (length ticks.old) message.now cursor.old.next_delta cursor.old.ticks) }
-    ensures statuses_after { statuses.new ≡ replicate (length ticks.old) 1 }
-    ensures ticks_after { ticks.new ≡ Run.run_times (length ticks.old) message.now cursor.old.next_delta cursor.old.ticks }
+// Hands out n packets of a run of small deltas, from a place of the lists on.
+// Given parts of the lists, with `fill` and `enumerate`: tried, and handing out took 1.2 to 1.3 times as long. With `zip` and `ticks.iter_mut()`: tried, and the proof didn't close, since std tells nothing of what is written through an adapter of `iter_mut`.
+fn read_run(
+    message: &[u8],
+    cursor: &mut Cursor,
+    statuses: &mut [u8],
+    ticks: &mut [i32],
+    at: usize,
+    n: usize,
+)
+    requires at_hand { (cursor.old.next_delta + n ≤ length message.now) × ((n ≤ cursor.old.place.symbols_left) × (n ≤ cursor.old.packets_left)) }
+    requires room { (at + n ≤ length statuses.old) × (at + n ≤ length ticks.old) }
+    ensures cursor_after { cursor.new ≡ Run.after_run cursor.old n (Run.run_ticks n message.now cursor.old.next_delta cursor.old.ticks) }
+    ensures statuses_after { statuses.new ≡ sets statuses.old at (replicate n 1) }
+    ensures ticks_after { ticks.new ≡ sets ticks.old at (Run.run_times n message.now cursor.old.next_delta cursor.old.ticks) }
 {
-    let n = ticks.len();
-    let end = cursor.next_delta + n;
-    statuses.fill(1);
+    let delta = cursor.next_delta;
     let mut sum = cursor.ticks;
-    // No `zip` with `ticks.iter_mut()`: tried, and a proof knows nothing of what is written through an adapter of `iter_mut`.
-    for (i, delta) in message[cursor.next_delta..end].iter().enumerate() {
-        sum = sum.wrapping_add(u32::from(*delta));
-        ticks[i] = sum.cast_signed();
+    for i in 0..n {
+        sum = sum.wrapping_add(u32::from(message[delta + i]));
+        statuses[at + i] = 1;
+        ticks[at + i] = sum.cast_signed();
     }
     *cursor = Cursor {
         place: Place {
             symbols_left: cursor.place.symbols_left - n as u16,
             ..cursor.place
         },
-        next_delta: end,
+        next_delta: delta + n,
         packets_left: cursor.packets_left - n as u16,
         next_sequence: cursor.next_sequence.wrapping_add(n as u16),
         ticks: sum,
@@ -65,14 +71,8 @@ pub fn read(message: &[u8], cursor: &mut Cursor, statuses: &mut [u8], ticks: &mu
     while packets < room {
         let n = run_at_hand(message.len(), room - packets, *cursor);
         if 0 < n {
-            let end = packets + n;
-            read_run(
-                message,
-                cursor,
-                &mut statuses[packets..end],
-                &mut ticks[packets..end],
-            );
-            packets = end;
+            read_run(message, cursor, statuses, ticks, packets, n);
+            packets += n;
             continue;
         }
         let Some(packet) = feedback_reader::step(message, cursor) else {

@@ -1,16 +1,15 @@
 -- `feedback_lists::read` meets its contract. The loop's invariant: what is left to hand out, handed out too, gives the whole.
-use Rattle.std.proofs.Common.{ap, ◌+◌, ◌≤◌, ◌∙◌, length, arith, to_z-of_z, w32}
+use Rattle.std.proofs.Common.{ap, ◌∙◌, arith, to_z-of_z, w32}
 use Rattle.std.specs.Int.{from_bool}
 use borrow.Author.Rules.{sfits_of}
-use Rattle.feedback_lists.specs.Reading.{part-length, reading-more, reading-run, reading-full, reading-end}
+use Rattle.feedback_lists.specs.Reading.{reading-more, reading-run, reading-full, reading-end}
 use Rattle.feedback_lists.proofs.read.Goals as goal
 
 pub loop-packets-preserved-then-n-gt0 : goal.loop-packets-preserved-then-n-gt0
 loop-packets-preserved-then-n-gt0 c =
     let v = c.loop-packets.invariant in
     let read = c.read_run.ensures in
-    let room : c.loop-packets.packets + c.run_at_hand-n.result ≤ length c.loop-packets.ticks = omega (arith, c.run_at_hand-n.ensures.room, c.min-room.ensures, v.ticks-long) in
-    reading-run _ _ _ _ c.run_at_hand-n.result _ _ c.run_at_hand-n.ensures v (omega (arith, c.run_at_hand-n.ensures.room, c.min-room.ensures)) c.if-n-gt0.true (part-length _ _ _ room)
+    reading-run _ _ _ _ c.run_at_hand-n.result _ c.run_at_hand-n.ensures v (omega (arith, c.run_at_hand-n.ensures.room, c.min-room.ensures)) c.if-n-gt0.true
     read.statuses_after read.ticks_after read.cursor_after
 
 pub returns-in_default : goal.returns-in_default
