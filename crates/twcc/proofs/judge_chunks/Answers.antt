@@ -2,14 +2,13 @@
 use Prim.Native.Nat.{◌+◌, ◌≤◌}
 use mathlib.Core.Path.{◌≡◌, refl, sym, ◌∙◌}
 use native.Mathlib.Omega.{arith}
-use borrow.Author.Tests.{ltb-false}
 use lib.ListN.{length}
 use Rattle.twcc.specs.Judging.{reserved-at, chunks-end}
 use Rattle.twcc.proofs.judge_chunks.Goals as goal
 use Rattle.twcc.proofs.judge_chunks.Goals.{After-read_u16-chunk}
 
 there : (c : After-read_u16-chunk) → c.loop-left.at + 2 ≤ length c.args.message.now
-there c = ltb-false _ _ (sym c.cut_short.ensures ∙ c.if-cut_short.false)
+there c = omega arith
 
 pub returns-then-any_reserved : goal.returns-then-any_reserved
 returns-then-any_reserved c =
