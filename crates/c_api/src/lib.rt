@@ -86,7 +86,7 @@ pub fn hornetpewter_open(
     }
 }
 
-// Question 1 of lent words and of the link that was loaded from them.
+// Question 1 of lent words and of the link that was loaded from them. Tried: one function that loads and asks, and hands an `Option` to a `let else`; the proof of `hornetpewter_read` did not close.
 fn in_range(link: &[u64; 100], lent: Link) -> bool
     ensures { result ≡ (formed link.now && in_range lent) }
 {
