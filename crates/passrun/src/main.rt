@@ -13,7 +13,7 @@ const MOST_RECORDS: u16 = 1_365;
 // A file's beginning with one record more tells what is printed for the file.
 const BEGINNING_BYTES: usize = (MOST_RECORDS as usize + 1) * pass_records::RECORD_BYTES;
 
-// Room for every listing. Input and output are arrays: the program allocates nothing.
+// Room for every listing. Input and output are arrays, since the program allocates nothing.
 const OUTPUT_BYTES: usize = 65_536;
 
 // Writes what is printed for a file to the start of a buffer that has room for every listing.
@@ -31,7 +31,6 @@ fn print(file: &[u8], out: &mut [u8]) -> usize
 // A longer file is read up to its beginning. A read that fails is no end, and then nothing is printed. What failed is said on standard error; where a write
 // fails, a part may be printed.
 fn main(rt: HostRuntime) -> io::Result<()> {
-    // No heap: arrays that have room for the longest beginning and the longest output.
     let mut input = [0u8; BEGINNING_BYTES];
     let mut out = [0u8; OUTPUT_BYTES];
     let Ok(n) = reading::read_full(&mut rt.reader(), &mut input) else {

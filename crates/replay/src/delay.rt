@@ -80,7 +80,7 @@ pub fn trendline(t: &mut TrendlineEstimator, i: Case) -> [u64; 6] {
     ]
 }
 
-// The oracle's numbers of a signal. No other enum has its names, so there is nothing to share with link_words.
+// The oracle's numbers of a signal. Those of `BandwidthUsage` in link_words are in another order, and of another type.
 fn signal(n: u64) -> Signal {
     match n {
         0 => Signal::Overuse,
