@@ -71,16 +71,6 @@ fn data_size(n: u64) -> DataSize
     DataSize(i64::try_from(n).unwrap_or(i64::MAX))
 }
 
-fn acked_anew(acked: AckedBitrateEstimator) -> AckedBitrateEstimator
-    ensures { result ≡ acked }
-{
-    AckedBitrateEstimator {
-        estimate: control::anew(acked.estimate),
-        last_update: control::anew(acked.last_update),
-        ..acked
-    }
-}
-
 // The estimator after packets in the order of receipt, if question 9 is answered with yes.
 fn acknowledge(
     acked: AckedBitrateEstimator,
@@ -91,7 +81,7 @@ fn acknowledge(
 {
     let mut acked = acked;
     for (remote, size) in remotes.iter().zip(sizes) {
-        acked = acked_anew(acked.update(*remote, data_size(*size)));
+        acked = acked.update(*remote, data_size(*size));
         if !questions::bytes_in(acked.sum) {
             return None;
         }
