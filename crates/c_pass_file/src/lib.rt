@@ -9,7 +9,7 @@ ghost use Rattle.c_pass_file.specs.CPassFile as CPassFile;
 use pass_records::{FileRefusal, MOST_RECORDS};
 
 // A number of bytes, or the opposite of the number of the question that a file fails: C gets no `Result`. `c_api` and `c_feedback` have the negation too, each of its own
-// refusals: one function for all three would be public and generic, and a public one asks nothing, so not that the number fits an i64.
+// refusals: one function for the three would want a crate of its own for this line, since no crate with code stands below all three.
 fn code(answer: Result<usize, FileRefusal>) -> i64
     requires { IfOk answer (λ bytes. bytes ≤ 48 * most_records) }
     ensures { result ≡ CPassFile.code answer }

@@ -13,6 +13,7 @@ fn run_at_hand(length: usize, places: usize, cursor: Cursor) -> usize
     ensures { Run.AtHand length places cursor result }
 {
     let place = cursor.place;
+    // By a range, as `status_chunk` tells its kinds: a chunk from 0x2000 up to 0x4000 is a run of small deltas.
     if !(0x2000..0x4000).contains(&place.chunk) {
         return 0;
     }
@@ -23,7 +24,7 @@ fn run_at_hand(length: usize, places: usize, cursor: Cursor) -> usize
 }
 
 // Hands out n packets of a run of small deltas, from a place of the lists on.
-// Given parts of the lists, with `fill` and `enumerate`: tried, and handing out took 1.2 to 1.3 times as long. With `zip` and `ticks.iter_mut()`: tried, and the proof didn't close, since std tells nothing of what is written through an adapter of `iter_mut`.
+// Given parts of the lists, with `fill` and `enumerate`: tried, and handing out took 1.2 to 1.3 times as long. With `zip` and `ticks.iter_mut()`: tried, and the proof didn't close, since nothing is known of what is written through a zip of `iter_mut`.
 fn read_run(
     message: &[u8],
     cursor: &mut Cursor,

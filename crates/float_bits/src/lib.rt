@@ -12,7 +12,7 @@ pub fn from_bits(n: u64) -> f64
     std::num::f64_from_bits_with_nan(n)
 }
 
-// The other direction: the bits of x. A NaN gives 0x7ff8_0000_0000_0000.
+// No twin of `from_bits`, but the other direction by another function of std: the bits of x. A NaN gives 0x7ff8_0000_0000_0000.
 pub fn to_bits(x: f64) -> u64
     ensures { result ≡ to_bits binary64 x }
 {

@@ -93,6 +93,7 @@ impl Replay {
     // Where the lists are cut short, so are the words after them.
     fn report(&mut self, input: &mut impl Read, i: Case) -> io::Result<()> {
         let n = if i.d > ROOM { 0 } else { i.d as usize };
+        // One array for the five lists, which stand in the file one after another.
         let mut room = [0u64; 5 * ROOM as usize];
         let lists = &mut room[..5 * n];
         read_words(input, lists)?;

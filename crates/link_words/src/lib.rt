@@ -302,7 +302,7 @@ fn store_group(words: &mut [u64; 100], at: usize, group: Option<ArrivalGroup>)
     words[at + 4] = times.last_remote_recv_time;
 }
 
-// The bits of 20 floats from a word on. No zip with `words[at..].iter_mut()`: tried, and nothing is known of the words after a loop over an adapter of `iter_mut`.
+// The bits of 20 floats from a word on. No zip with `words[at..].iter_mut()`: tried, and nothing is known of the words after a loop over that zip.
 fn store_floats(words: &mut [u64; 100], at: usize, floats: [f64; 20])
     requires { at + 20 ≤ 100 }
     ensures { words.new ≡ sets words.old at (map (to_bits binary64) floats) }

@@ -7,7 +7,7 @@ ghost use Rattle.listing_line.specs.ListingLine as Listing;
 
 const DIGITS: [u8; 16] = *b"0123456789abcdef";
 
-// A digit below 16. By a table: tried with a choice between b'0' + d and b'a' - 10 + d, a line takes 46 ns for 39, and the ratio to the Rust gets worse.
+// A digit below 16. By a table: tried with a choice between b'0' + d and b'a' - 10 + d, a line takes 46 ns in place of 39, and the ratio to the Rust gets worse.
 fn digit(d: u8) -> u8
     requires { d < 16 }
     ensures { result ≡ Listing.digit d }

@@ -212,7 +212,7 @@ fn judge_chain(file: &[u8], last: usize) -> Result<(), FileRefusal>
 }
 
 // Questions 10 to 13 of a file that may have `most` records, and an output of so many bytes.
-// Not inlined: with its loop in that of a listing, a record of samples/congestion.pass takes 114 ns, and so 112.
+// Not inlined: with its loop in that of a listing, a record of samples/congestion.pass takes 114 ns in place of 112.
 #[tactic(auto, unfolding(crate::specs::PassRecords::judge))]
 #[inline(never)]
 pub fn judge(file: &[u8], most: u16, output: usize) -> Result<(), FileRefusal>

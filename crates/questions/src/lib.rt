@@ -94,7 +94,7 @@ pub fn opening(start_bitrate: Bitrate, initial_window: u64, window: u64) -> Resu
 }
 
 // ---- report: 4 to 8, and what 9 asks of a byte sum
-// Whether every number passes a test. All are tested, which LLVM does by vectors: with `xs.iter().all(..)`, tried, 1,024 numbers take 0.6 µs and so 0.4, and a large report's ratio to the Rust gets worse.
+// Whether every number passes a test. All are tested, which LLVM does by vectors: with `xs.iter().all(..)`, tried, 1,024 numbers take 0.6 µs in place of 0.4, and a large report's ratio to the Rust gets worse.
 #[tactic(auto, using(crate::proofs::Laws::every_loop))]
 fn every<F: Fn(u64) -> bool>(xs: &[u64], test: F) -> bool
     requires { F.IsAlwaysCallable test }

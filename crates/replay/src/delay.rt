@@ -7,7 +7,7 @@ use rate_control::{RateControl, Signal};
 use std::alloc::{AllocError, Global};
 use trendline::TrendlineEstimator;
 
-// The packets that wait for a report, as it lends them: list by list.
+// The packets that wait for a report, as it lends them: list by list. A link's report has five such lists (link_replay), a controller's three.
 #[derive(Drop)]
 pub struct Waiting {
     sends: Vec<u64>,
@@ -38,7 +38,7 @@ impl Waiting {
     }
 }
 
-// Hypothesis with the counts of variations and of overuse.
+// Hypothesis with the counts of variations and of overuse. link_replay has one too: what both depend on, `cases`, knows no trendline.
 fn trend_word(t: TrendlineEstimator) -> u64 {
     let count = t.hypothesis() as u64 | (t.delays.num_delay_variations << 8);
     match t.overuse {
@@ -57,7 +57,7 @@ fn overusing_ns(t: TrendlineEstimator) -> u64 {
     }
 }
 
-// Each function below carries out a case's operation and gives our answers.
+// Each function below carries out a case's operation, a number in the file of cases, and gives our answers.
 pub fn trendline(t: &mut TrendlineEstimator, i: Case) -> [u64; 6] {
     let variation = InterGroupDelayDelta {
         send_delta: delta(i.a, i.b),

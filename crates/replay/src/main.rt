@@ -106,6 +106,7 @@ impl States {
 
     // Carries out a case's operation and gives our answers.
     fn run(&mut self, i: Case) -> Result<[u64; 6], AllocError> {
+        // The operations are numbers in the file of cases, and a range of them is a module's.
         Ok(match i.op {
             0..20 => quantities::time(i),
             20..30 => quantities::average(&mut self.average, i),
@@ -123,6 +124,7 @@ fn main(rt: HostRuntime) -> io::Result<()> {
     let mut input = rt.reader();
     let mut states = States::new(rt.alloc());
     let mut modules = Modules::new();
+    // Each program that reads cases has this loop: the contract of one in `cases` would have to say of which cases of the input the closure was called.
     for _ in 0..1_000_000_000u64 {
         let mut bytes = [0u8; 96];
         if reading::read_full(&mut input, &mut bytes)? < 96 {

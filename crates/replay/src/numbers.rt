@@ -15,7 +15,7 @@ pub fn option_bits(x: Option<f64>) -> u64 {
     x.map_or(0, float_bits::to_bits)
 }
 
-// link_words has these two for its own words; it knows the link, which stands above all modules here.
+// link_words has these two, private, for its own words: two formats that agree by chance, and either may change alone.
 pub fn delta(tag: u64, n: u64) -> TimeDelta {
     match tag {
         0 => TimeDelta::NegativeInfinity,

@@ -10,7 +10,7 @@ use std::time::Duration;
 pub fn as_secs_f64(ns: u64) -> f64
     ensures { result ≡ as_secs_f64 ns }
 {
-    // by hand: tried, std's took 3.6 ns a call and this 2.7, and the bar is that no ratio to the Rust in the benchmark gets worse
+    // by hand: tried, std's took 3.6 ns a call in place of 2.7, and a ratio to the Rust in the benchmark would get worse
     (ns / 1_000_000_000) as f64 + (ns % 1_000_000_000) as f64 / 1e9
 }
 

@@ -20,6 +20,7 @@ pub enum Symbol {
 }
 
 impl Symbol {
+    // No `From<u16>`: it says nothing of bits from 4 on.
     fn of_bits(bits: u16) -> Symbol
         requires { bits < 4 }
         ensures { Chunk.number result ≡ bits }
