@@ -1,12 +1,16 @@
-use Rattle.std.proofs.Common.{◌≡◌, length, drop}
+use Prim.Native.Nat.{◌≤◌}
 use mathlib.Core.Bool.{◌&&◌}
+use mathlib.Core.Path.{◌≡◌}
+use lib.ListN.{length, take, drop}
 use Rattle.link_state.specs.State as State
 use Rattle.link_state.proofs.timings_in.Given as goal
 
-abbrev pub invariant-loop-time : goal.invariant-loop-time
-invariant-loop-time l =
-    (goal.iterator-loop-time).can_next l.time-iterator × (goal.iterator-loop-time).is_finite l.time-iterator
+abbrev pub invariant-loop-i : goal.invariant-loop-i
+invariant-loop-i l =
+    (l.i ≤ l.n)
+    × (length l.times ≡ 20)
+    × (length l.delays ≡ 20)
     × (
-    (l.all && (State.ascends l.low (drop (length l.yielded) l.times) State.most_time && State.all_within State.most31 (drop (length l.yielded) l.delays)))
-    ≡ (State.ascends l.initial.low l.times State.most_time && State.all_within State.most31 l.delays)
+    (l.all && (State.ascends l.low (drop l.i (take l.n l.times)) State.most_time && State.all_within State.most31 (drop l.i (take l.n l.delays))))
+    ≡ (State.ascends l.initial.low (take l.n l.times) State.most_time && State.all_within State.most31 (take l.n l.delays))
     )
