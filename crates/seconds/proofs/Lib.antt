@@ -1,1 +1,3 @@
+pub mod Closest
 pub mod Ends
+pub mod Fields
