@@ -16,9 +16,7 @@ fn padded<const N: usize>(s: &[u8]) -> [u8; N]
     requires { length s.now ≤ N }
     ensures { result ≡ s.now ++ replicate (N - length s.now) 0 }
 {
-    let mut bytes = [0; N];
-    bytes[..s.len()].copy_from_slice(s);
-    bytes
+    std::array::from_fn(|i| read_u8(s, i))
 }
 
 // The N bytes of s from a place on. Bytes that are all in s are copied at once, which compiles to one load.
