@@ -1,6 +1,6 @@
 -- src/bwe/delay/arrival_group.rs: how packets are grouped by their send times, and the delay between groups. Instants are ns.
 use Rattle.std.specs.Option.{unwrap_or}
-use Rattle.std.specs.Prelude.{ℕ, ◌+◌, ◌-◌, ◌*◌, ◌/◌, max, Bool, true, false, ◌&&◌, cond, ltb, Option, Some, None}
+use Rattle.std.specs.Prelude.{ℕ, ◌+◌, ◌-◌, ◌*◌, ◌/◌, max, Bool, ◌&&◌, cond, ltb, Option, Some, None}
 use Rattle.time.specs.Time as Time
 use Rattle.time.specs.Time.{saturating_duration_since, saturating_add, exact, since, positive}
 use Rattle.time.specs.declared.TimeDelta.{TimeDelta}

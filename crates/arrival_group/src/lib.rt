@@ -198,6 +198,7 @@ impl ArrivalGroupAccumulator {
 
     // A packet whose send instant is rounded.
     #[tactic(auto, unfolding(crate::specs::ArrivalGroup::accumulate_rounded))]
+    #[inline(always)]
     fn accumulate_rounded(self, origin: u64, send: u64, remote: u64) -> Accumulated
         ensures { result ≡ Group.accumulate_rounded self.current_group self.previous_group origin send remote }
     {
@@ -217,14 +218,20 @@ impl ArrivalGroupAccumulator {
     }
 
     // A packet, in the order of receipt. One sent before the first packet joins no group.
+    // Inlined, since else a loop's accumulator goes through memory at each packet, which takes twice the time.
     #[tactic(auto, unfolding(crate::specs::ArrivalGroup::accumulate_packet))]
+    #[inline(always)]
     pub fn accumulate_packet(self, local_send_time: u64, remote_recv_time: u64) -> Accumulated
         ensures { result ≡ Group.accumulate_packet self local_send_time remote_recv_time }
     {
         let origin = self.send_time_origin.unwrap_or(local_send_time);
         if local_send_time < origin {
+            // There is an origin here; said so, a loop asks for one at its first packet alone.
             return Accumulated {
-                accumulator: self,
+                accumulator: Self {
+                    send_time_origin: Some(origin),
+                    ..self
+                },
                 delta: None,
             };
         }
