@@ -1,5 +1,5 @@
 -- A case of the oracle, and counts of cases.
-use Rattle.std.specs.Prelude.{ℕ, ◌+◌, ◌*◌, ◌%◌, ◌^◌, Bool, not, ◌&&◌, List, [], ◌∷◌, ◌==◌}
+use Rattle.std.specs.Prelude.{ℕ, ◌+◌, ◌*◌, ◌%◌, ◌^◌, Bool, not, ◌&&◌, List, [], ◌∷◌, ◌==◌, slice_index}
 use mir.Val.{bool_byte}
 use Rattle.le_bytes.specs.LeBytes.{le}
 use Rattle.cases.specs.declared.Case.{Case}
@@ -20,6 +20,13 @@ read s =
       e = word s 5;
       answers = word s 6 ∷ word s 7 ∷ word s 8 ∷ word s 9 ∷ word s 10 ∷ word s 11 ∷ [];
     }
+
+abbrev same_at : List ℕ → List ℕ → ℕ → Bool
+same_at xs ys k = slice_index xs k == slice_index ys k
+
+abbrev pub agrees : Case → List ℕ → Bool
+agrees c xs =
+    same_at xs c.answers 0 && same_at xs c.answers 1 && same_at xs c.answers 2 && same_at xs c.answers 3 && same_at xs c.answers 4 && same_at xs c.answers 5
 
 abbrev pub new : Counts
 new = record { cases = 0; packets = 0; agreed = 0; wrong = 0 }

@@ -35,8 +35,10 @@ impl Case {
         }
     }
 
+    #[tactic(auto, using(crate::proofs::Agrees::six_compared))]
     pub fn agrees(self, answers: [u64; 6]) -> bool
-        ensures { IsTrue result ↔ (answers ≡ self.answers) }
+        ensures value { result ≡ Cases.agrees self answers }
+        ensures same { IsTrue result ↔ (answers ≡ self.answers) }
     {
         self.answers == answers
     }
