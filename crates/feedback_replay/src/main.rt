@@ -42,18 +42,19 @@ fn read_case(bytes: &[u8]) -> Case {
 
 // The case of a message of that length that is so judged.
 fn case_of(length: u32, judged: Result<Header, Refusal>) -> Case {
+    let number = twcc::number(judged);
     match judged {
         Ok(header) => Case {
             length,
-            number: 0,
+            number,
             base_seq: u32::from(header.base_seq),
             status_count: u32::from(header.status_count),
             reference_time: header.reference_time.cast_unsigned(),
             feedback_count: u32::from(header.feedback_count),
         },
-        Err(refusal) => Case {
+        Err(_) => Case {
             length,
-            number: u64::from(refusal),
+            number,
             base_seq: 0,
             status_count: 0,
             reference_time: 0,

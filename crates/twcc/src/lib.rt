@@ -54,6 +54,13 @@ impl From<Refusal> for u64 {
     }
 }
 
+// The number of the question that a message fails, or 0.
+pub fn number(judged: Result<Header, Refusal>) -> u64
+    ensures { result ≡ Feedback.number judged }
+{
+    judged.err().map_or(0, u64::from)
+}
+
 // The 16 bits at a place, the most significant byte first. What lies past the end counts as 0.
 // By tests on the length, as `cut_short` and the loop over chunks: `read_u8` and `checked_sub` were tried, and judging took 1.4 times as long.
 pub fn read_u16(bytes: &[u8], at: usize) -> u16
