@@ -91,6 +91,11 @@ answer (Err refusal) text = Err refusal
 unfoldable pub list : ℕ → List ℕ → ℕ → Result ℕ FileRefusal
 list most file output = answer (judge most file output) (listing file)
 
+-- the number of the question that turned a file down, or 0
+abbrev pub answer_number : Result ℕ FileRefusal → ℕ
+answer_number (Ok n) = 0
+answer_number (Err refusal) = Records.question refusal
+
 -- the output after: the listing, and after it the bytes that were there; a refusal leaves all as it was
 abbrev pub output_by : Result (Unit {0}) FileRefusal → List ℕ → List ℕ → List ℕ
 output_by (Ok linked) text out = text ++ drop (length text) out

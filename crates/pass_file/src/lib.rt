@@ -164,3 +164,10 @@ pub fn list(file: &[u8], out: &mut [u8], most: u16) -> Result<usize, FileRefusal
     pass_records::judge(file, most, out.len())?;
     Ok(list_linked(file, out))
 }
+
+// The number of the question that turned a file down, or 0.
+pub fn number(listed: Result<usize, FileRefusal>) -> u64
+    ensures { result ≡ PassFile.answer_number listed }
+{
+    listed.err().map_or(0, u64::from)
+}
