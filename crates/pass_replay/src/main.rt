@@ -32,37 +32,39 @@ struct Header {
     packets: u32,
 }
 
+// Neither this nor the next stops at the first difference: so each compiles to wide comparisons. With `all` and std's `starts_with` files took five times as long.
 fn unwritten(out: &[u8]) -> bool {
-    out.iter().all(|byte| *byte == UNWRITTEN)
+    out.iter().fold(true, |same, byte| same & (*byte == UNWRITTEN))
 }
 
-// Whether the next bytes of standard input are these, at most a part.
-fn reads(input: &mut impl Read, bytes: &[u8]) -> io::Result<bool> {
+fn starts_with(out: &[u8], text: &[u8]) -> bool {
+    let same = out.iter().zip(text).fold(true, |same, (a, b)| same & (a == b));
+    same & (text.len() <= out.len())
+}
+
+// Whether the next n bytes of standard input, at most a part, are the output's at a place.
+fn reads(input: &mut impl Read, out: &[u8], at: usize, n: usize) -> io::Result<bool> {
     let mut part = [0u8; PART];
-    let Some(part) = part.get_mut(..bytes.len()) else {
+    let Some(part) = part.get_mut(..n) else {
         return Ok(false);
     };
-    Ok((reading::read_full(input, part)? == bytes.len()) & (&*part == bytes))
+    let whole = reading::read_full(input, part)? == n;
+    Ok(whole & out.get(at..).is_some_and(|rest| starts_with(rest, part)))
 }
 
-// Whether the output starts with so many bytes of standard input, and is unwritten after them.
+// Whether the output starts with so many bytes of standard input, and is unwritten after them. All of them are read, also where one differs, so that the next case
+// begins where it stands.
 fn holds(input: &mut impl Read, out: &[u8], bytes: usize) -> io::Result<bool> {
-    let Some((listing, rest)) = out.split_at_checked(bytes) else {
-        return Ok(false);
-    };
-    for part in listing.chunks(PART) {
-        if !reads(input, part)? {
-            return Ok(false);
-        }
+    let mut same = true;
+    for k in 0..bytes / PART {
+        same &= reads(input, out, k * PART, PART)?;
     }
-    Ok(unwritten(rest))
+    same &= reads(input, out, bytes - bytes % PART, bytes % PART)?;
+    Ok(same & out.get(bytes..).is_some_and(unwritten))
 }
 
 fn answers(listed: Result<usize, FileRefusal>, number: u64, bytes: usize) -> bool {
-    match listed {
-        Ok(listing) => (number == 0) & (listing == bytes),
-        Err(refusal) => (number == u64::from(refusal)) & (bytes == 0),
-    }
+    (pass_file::number(listed) == number) & (listed.unwrap_or(0) == bytes)
 }
 
 // Whether a file of up to 1,365 records gets under that limit what it got, and a longer one 10.
@@ -76,7 +78,7 @@ fn agrees_below(file: &[u8], out: &[u8], number: u64, bytes: usize) -> bool {
     let Some(other) = other.get_mut(..room) else {
         return false;
     };
-    answers(pass_file::list(file, other, SHORT_RECORDS), number, bytes) & out.starts_with(other)
+    answers(pass_file::list(file, other, SHORT_RECORDS), number, bytes) & starts_with(out, other)
 }
 
 fn read_header(header: &[u8]) -> Header {
