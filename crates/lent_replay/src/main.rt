@@ -31,16 +31,17 @@ fn answers(answer: Result<Estimate, Refusal>) -> [u64; 6] {
     }
 }
 
-// Reads numbers from standard input. Whether all were there.
+// Reads numbers from standard input, all in one piece. Whether all were there.
 fn read_words(input: &mut impl Read, words: &mut [u64]) -> io::Result<bool> {
-    for word in words {
-        let mut bytes = [0u8; 8];
-        if reading::read_full(input, &mut bytes)? < 8 {
-            return Ok(false);
-        }
-        *word = u64::from_le_bytes(bytes);
+    let mut bytes = [0u8; 1600];
+    let Some(bytes) = bytes.get_mut(..8 * words.len()) else {
+        return Ok(false);
+    };
+    let whole = reading::read_full(input, bytes)? == bytes.len();
+    for (k, word) in words.iter_mut().enumerate() {
+        *word = le_bytes::read_u64(bytes, 8 * k);
     }
-    Ok(true)
+    Ok(whole)
 }
 
 // The n numbers from a start on. Where there are not so many, which no case reaches, all.
