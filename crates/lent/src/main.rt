@@ -6,6 +6,7 @@
 use bandwidth::Bitrate;
 use link::Opening;
 use std::io;
+use std::io::Read;
 
 fn opened() -> [u64; 100] {
     if let Ok(opening) = Opening::judge(Bitrate(1_000_000.0), 500_000_000, 150_000_000) {
@@ -39,6 +40,47 @@ fn full() -> [u64; 100] {
     words
 }
 
+// The next byte, if there is one.
+fn next(input: &mut impl Read) -> io::Result<Option<u8>> {
+    let mut byte = [0u8; 1];
+    Ok((input.read(&mut byte)? > 0).then_some(byte[0]))
+}
+
+fn digit(c: u8) -> Option<u64> {
+    match c {
+        b'0'..=b'9' => Some((c - b'0') as u64),
+        b'a'..=b'f' => Some((c - b'a' + 10) as u64),
+        _ => None,
+    }
+}
+
+// A number in hexadecimal, and the byte after it. None comes after 17 digits.
+fn read_number(input: &mut impl Read) -> io::Result<(u64, Option<u8>)> {
+    let mut value = 0;
+    for _ in 0..17u64 {
+        let end = next(input)?;
+        let Some(d) = end.and_then(digit) else {
+            return Ok((value, end));
+        };
+        value = (value % 0x1000_0000_0000_0000 * 16).wrapping_add(d);
+    }
+    Ok((value, None))
+}
+
+// Prints a name, of up to 1,000 bytes; whether a colon ends it.
+fn name(rt: &impl Print, input: &mut impl Read) -> io::Result<bool> {
+    for _ in 0..1000u64 {
+        let Some(c) = next(input)? else {
+            return Ok(false);
+        };
+        if c == b':' {
+            return Ok(true);
+        }
+        rt.write_all(&[c])?;
+    }
+    Ok(false)
+}
+
 fn show(rt: &impl Print, words: &[u64; 100]) -> io::Result<()> {
     if link_words::formed(words) {
         let called = link::timeout(link_words::load(words), 1_000_000_000);
@@ -48,34 +90,45 @@ fn show(rt: &impl Print, words: &[u64; 100]) -> io::Result<()> {
     print!(rt; " -")
 }
 
-// The words with one of them set, if the text sets one.
-fn set(mut words: [u64; 100], text: &str) -> [u64; 100] {
-    if let Some((at, word)) = text.split_once('=') {
-        if let (Ok(at), Ok(word)) = (at.parse::<usize>(), u64::from_str_radix(word, 16)) {
-            if let Some(place) = words.get_mut(at) {
-                *place = word;
-            }
+// Asks a case; whether there is another.
+fn case(rt: &impl Print, input: &mut impl Read, link: [u64; 100]) -> io::Result<bool> {
+    let mut words = link;
+    let mut end = None;
+    for _ in 0..100u64 {
+        let (at, _) = read_number(input)?;
+        let word;
+        (word, end) = read_number(input)?;
+        // Two decimal digits, which were read as hexadecimal ones.
+        words[(at / 16 % 10 * 10 + at % 16 % 10) as usize] = word;
+        if end != Some(b',') {
+            break;
         }
     }
-    words
+    show(rt, &words)?;
+    Ok(end == Some(b' '))
 }
 
-// Asks each case of a line.
-fn ask(rt: &impl Print, words: [u64; 100], cases: &str) -> io::Result<()> {
-    for case in cases.split(' ') {
-        show(rt, &case.split(',').fold(words, set))?;
+fn cases(rt: &impl Print, input: &mut impl Read, link: [u64; 100]) -> io::Result<()> {
+    for _ in 0..1000u64 {
+        if !case(rt, input, link)? {
+            break;
+        }
     }
     Ok(())
 }
 
+// Byte by byte: by `lines`, `split` and `parse` other answers came for lines that are no cases, or are longer than the loops here allow.
 fn main(rt: HostRuntime) -> io::Result<()> {
-    let words = full();
-    for line in rt.lines(rt.alloc()) {
-        if let Some((name, cases)) = line?.split_once(": ") {
-            print!(rt; "{name}:")?;
-            ask(&rt, words, cases)?;
-            println!(rt)?;
+    let mut input = rt.reader();
+    let link = full();
+    for _ in 0..1000u64 {
+        if !name(&rt, &mut input)? {
+            break;
         }
+        rt.write_all(b":")?;
+        let _ = next(&mut input)?;
+        cases(&rt, &mut input, link)?;
+        rt.write_all(b"\n")?;
     }
     Ok(())
 }
