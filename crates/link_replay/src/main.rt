@@ -50,6 +50,9 @@ fn shown(answer: Result<(), Refusal>, link: Link) -> [u64; 6] {
     ]
 }
 
+// More packets than a report may have.
+const ROOM: usize = 1100;
+
 // The packets that wait for a report, as it lends them: list by list.
 #[derive(Drop)]
 struct Packets {
@@ -71,13 +74,17 @@ impl Packets {
         }
     }
 
-    fn push(&mut self, i: Case) -> Result<(), AllocError> {
+    // Whether the packet found room. So many are too many for a report, however many more there are.
+    fn push(&mut self, i: Case) -> Result<bool, AllocError> {
+        if self.sequences.len() >= ROOM {
+            return Ok(false);
+        }
         self.sequences.push(i.a)?;
         self.sizes.push(i.b)?;
         self.sends.push(i.c)?;
         self.remotes.push(i.d)?;
         self.receives.push(i.e)?;
-        Ok(())
+        Ok(true)
     }
 
     fn clear(&mut self) {
@@ -146,8 +153,9 @@ impl Replay {
         let answer = match i.op {
             90 => self.open(i),
             91 => {
-                self.packets.push(i)?;
-                self.counts = self.counts.counted(1, i.agrees([0; 6]));
+                // A packet that finds no room differs from the oracle's.
+                let lost = !self.packets.push(i)?;
+                self.counts = self.counts.counted(1, i.agrees([lost as u64, 0, 0, 0, 0, 0]));
                 return Ok(());
             }
             92 => {

@@ -4,37 +4,46 @@ use arrival_group::InterGroupDelayDelta;
 use cases::Case;
 use control::DelayController;
 use rate_control::{RateControl, Signal};
-use std::alloc::{AllocError, Global};
 use trendline::TrendlineEstimator;
 
-// The packets that wait for a report, as it lends them: list by list. A link's report has five such lists (link_replay), a controller's three.
-#[derive(Drop)]
+// The packets that wait for a report, with room for 128: send instants, then remote ones from place 128 on, then local ones from 256 on. One array, no lists on the
+// heap: what a report of more than 128 packets takes, and answers, was so when there was no heap, and no input may make it grow.
+#[derive(Clone, Copy)]
 pub struct Waiting {
-    sends: Vec<u64>,
-    remotes: Vec<u64>,
-    receives: Vec<u64>,
+    lists: [u64; 384],
+    n: usize,
 }
 
 impl Waiting {
-    pub fn new(alloc: Global) -> Self {
+    pub fn new() -> Self {
         Self {
-            sends: Vec::new(alloc),
-            remotes: Vec::new(alloc),
-            receives: Vec::new(alloc),
+            lists: [0; 384],
+            n: 0,
         }
     }
 
-    fn push(&mut self, i: Case) -> Result<(), AllocError> {
-        self.sends.push(i.a)?;
-        self.remotes.push(i.b)?;
-        self.receives.push(i.c)?;
-        Ok(())
+    fn push(&mut self, i: Case) {
+        let n = self.n;
+        if n < 128 {
+            self.lists[n] = i.a;
+            self.lists[n + 128] = i.b;
+            self.lists[n + 256] = i.c;
+        }
+        self.n = n.wrapping_add(1);
     }
 
-    fn clear(&mut self) {
-        self.sends.clear();
-        self.remotes.clear();
-        self.receives.clear();
+    // A packet that finds no room is lost: its answer differs from the oracle's, which is 0.
+    fn words(self) -> [u64; 6] {
+        [(self.n > 128) as u64, 0, 0, 0, 0, 0]
+    }
+
+    // The waiting packets' numbers from a start on. Where there are not so many, which no case reaches, all.
+    fn part(&self, start: usize) -> &[u64] {
+        let lists = &self.lists;
+        lists
+            .get(start..)
+            .and_then(|rest| rest.get(..self.n))
+            .unwrap_or(lists)
     }
 }
 
@@ -112,9 +121,9 @@ pub fn rate_control(r: &mut RateControl, i: Case) -> [u64; 6] {
 
 fn report(c: DelayController, w: &Waiting, i: Case) -> DelayController {
     c.update(
-        &w.sends,
-        &w.remotes,
-        &w.receives,
+        w.part(0),
+        w.part(128),
+        w.part(256),
         (i.a % 2 == 1).then_some(rate(i.b)),
         (i.a / 2 == 1).then_some(rate(i.c)),
         i.d,
@@ -135,19 +144,19 @@ fn control_words(c: DelayController) -> [u64; 6] {
 }
 
 // A packet waits for its report, and its answers are 0.
-pub fn control(c: &mut DelayController, w: &mut Waiting, i: Case) -> Result<[u64; 6], AllocError> {
+pub fn control(c: &mut DelayController, w: &mut Waiting, i: Case) -> [u64; 6] {
     match i.op {
         70 => *c = DelayController::new(rate(i.a)),
         71 => {
-            w.push(i)?;
-            return Ok([0; 6]);
+            w.push(i);
+            return w.words();
         }
         72 => {
             *c = report(*c, w, i);
-            w.clear();
+            *w = Waiting::new();
         }
         73 => *c = c.handle_timeout((i.a == 1).then_some(rate(i.b)), i.c),
         _ => (),
     }
-    Ok(control_words(*c))
+    control_words(*c)
 }

@@ -16,7 +16,6 @@ use cases::{Case, Counts};
 use control::DelayController;
 use delay::Waiting;
 use rate_control::RateControl;
-use std::alloc::{AllocError, Global};
 use std::io;
 use trendline::TrendlineEstimator;
 
@@ -79,7 +78,7 @@ impl Modules {
 }
 
 // What the operations of each module work on.
-#[derive(Drop)]
+#[derive(Clone, Copy)]
 struct States {
     average: MovingAverage,
     acked: AckedBitrateEstimator,
@@ -91,7 +90,7 @@ struct States {
 }
 
 impl States {
-    fn new(alloc: Global) -> Self {
+    fn new() -> Self {
         let start = Bitrate(1_000_000.0);
         Self {
             average: MovingAverage::new(0.95),
@@ -100,29 +99,29 @@ impl States {
             trendline: TrendlineEstimator::new(),
             rate: RateControl::new(start, Bitrate::MIN_ESTIMATE, Bitrate::MAX_ESTIMATE),
             control: DelayController::new(start),
-            waiting: Waiting::new(alloc),
+            waiting: Waiting::new(),
         }
     }
 
     // Carries out a case's operation and gives our answers.
-    fn run(&mut self, i: Case) -> Result<[u64; 6], AllocError> {
+    fn run(&mut self, i: Case) -> [u64; 6] {
         // The operations are numbers in the file of cases, and a range of them is a module's.
-        Ok(match i.op {
+        match i.op {
             0..20 => quantities::time(i),
             20..30 => quantities::average(&mut self.average, i),
             30..40 => quantities::acked(&mut self.acked, i),
             40..50 => quantities::groups(&mut self.groups, i),
             50..60 => delay::trendline(&mut self.trendline, i),
             60..70 => delay::rate_control(&mut self.rate, i),
-            70..80 => delay::control(&mut self.control, &mut self.waiting, i)?,
+            70..80 => delay::control(&mut self.control, &mut self.waiting, i),
             _ => quantities::bandwidth(i),
-        })
+        }
     }
 }
 
 fn main(rt: HostRuntime) -> io::Result<()> {
     let mut input = rt.reader();
-    let mut states = States::new(rt.alloc());
+    let mut states = States::new();
     let mut modules = Modules::new();
     // Each program that reads cases has this loop: the contract of one in `cases` would have to say of which cases of the input the closure was called.
     for _ in 0..1_000_000_000u64 {
@@ -131,7 +130,7 @@ fn main(rt: HostRuntime) -> io::Result<()> {
             break;
         }
         let case = Case::read(&bytes);
-        let answers = states.run(case)?;
+        let answers = states.run(case);
         modules = modules.counted(case, answers);
     }
     modules.print(&rt)

@@ -64,9 +64,13 @@ fn compare_duration(a: TimeDelta, duration: TimeDelta) -> [u64; 6] {
     ]
 }
 
-// A number of either sign, given as a float.
+// A number of either sign, given as a float. Past 10^15, where no case has one, 0.
 fn whole(b: u64) -> i64 {
-    std::num::saturating_f64_to_i64(float_bits::from_bits(b))
+    let x = float_bits::from_bits(b);
+    if (-1e15..=1e15).contains(&x) {
+        return std::num::saturating_f64_to_i64(x);
+    }
+    0
 }
 
 // Each function below carries out a case's operation and gives our answers. The operations are numbers in the file of cases; each is read in the
