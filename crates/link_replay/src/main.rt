@@ -155,7 +155,9 @@ impl Replay {
             91 => {
                 // A packet that finds no room differs from the oracle's.
                 let lost = !self.packets.push(i)?;
-                self.counts = self.counts.counted(1, i.agrees([lost as u64, 0, 0, 0, 0, 0]));
+                self.counts = self
+                    .counts
+                    .counted(1, i.agrees([lost as u64, 0, 0, 0, 0, 0]));
                 return Ok(());
             }
             92 => {

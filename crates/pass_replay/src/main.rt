@@ -34,11 +34,15 @@ struct Header {
 
 // Neither this nor the next stops at the first difference: so each compiles to wide comparisons. With `all` and std's `starts_with` files took five times as long.
 fn unwritten(out: &[u8]) -> bool {
-    out.iter().fold(true, |same, byte| same & (*byte == UNWRITTEN))
+    out.iter()
+        .fold(true, |same, byte| same & (*byte == UNWRITTEN))
 }
 
 fn starts_with(out: &[u8], text: &[u8]) -> bool {
-    let same = out.iter().zip(text).fold(true, |same, (a, b)| same & (a == b));
+    let same = out
+        .iter()
+        .zip(text)
+        .fold(true, |same, (a, b)| same & (a == b));
     same & (text.len() <= out.len())
 }
 
